@@ -1,0 +1,97 @@
+// Document 01's refusals: a number that says which rule was broken, and the place that it is told with.
+ghost use mathlib.Core.Path.{_≡_};
+ghost use Rattle.refusals.specs.Answer.{accepted, refused};
+ghost use Rattle.refusals.specs.Numbers.{ended, badForm, badEdition, badId, badPeriod, badCount, badExecution, badParent, bytesFollow, loop, longPath, idStands, boardFull, notStanding, badCores, fewWords, unsoundBoard};
+
+// A number of the table and a place: a byte of the input, or 0.
+pub struct Refusal {
+    pub number: u64,
+    pub place: usize,
+}
+
+impl Refusal {
+    pub const ENDED: u64 = 1;
+
+    pub const BAD_FORM: u64 = 2;
+
+    pub const BAD_EDITION: u64 = 3;
+
+    pub const BAD_ID: u64 = 4;
+
+    pub const BAD_PERIOD: u64 = 5;
+
+    pub const BAD_COUNT: u64 = 6;
+
+    pub const BAD_EXECUTION: u64 = 7;
+
+    pub const BAD_PARENT: u64 = 8;
+
+    pub const BYTES_FOLLOW: u64 = 9;
+
+    pub const LOOP: u64 = 10;
+
+    pub const LONG_PATH: u64 = 11;
+
+    pub const ID_STANDS: u64 = 12;
+
+    pub const BOARD_FULL: u64 = 13;
+
+    pub const NOT_STANDING: u64 = 14;
+
+    pub const BAD_CORES: u64 = 15;
+
+    pub const FEW_WORDS: u64 = 16;
+
+    pub const UNSOUND_BOARD: u64 = 17;
+}
+
+// What a public call answers: refusal 0 is acceptance, and then value is what the call returns; otherwise place is the refusal's.
+#[repr(C)]
+pub struct Answer {
+    pub refusal: u64,
+    pub place: u64,
+    pub value: u64,
+}
+
+impl Answer {
+    pub fn accepted(value: u64) -> Self
+        ensures { λ r. ⌜ r ≡ accepted value ⌝ }
+    {
+        Self {
+            refusal: 0,
+            place: 0,
+            value,
+        }
+    }
+
+    pub fn refused(refusal: u64, place: u64) -> Self
+        ensures { λ r. ⌜ r ≡ refused refusal place ⌝ }
+    {
+        Self {
+            refusal,
+            place,
+            value: 0,
+        }
+    }
+}
+
+// Each constant is the number that specs/ gives the name.
+pub fn constants_named()
+    ensures { λ _. do ⌜ (← ⟦Refusal::ENDED⟧ .entry) ≡ ended ⌝ }
+    ensures { λ _. do ⌜ (← ⟦Refusal::BAD_FORM⟧ .entry) ≡ badForm ⌝ }
+    ensures { λ _. do ⌜ (← ⟦Refusal::BAD_EDITION⟧ .entry) ≡ badEdition ⌝ }
+    ensures { λ _. do ⌜ (← ⟦Refusal::BAD_ID⟧ .entry) ≡ badId ⌝ }
+    ensures { λ _. do ⌜ (← ⟦Refusal::BAD_PERIOD⟧ .entry) ≡ badPeriod ⌝ }
+    ensures { λ _. do ⌜ (← ⟦Refusal::BAD_COUNT⟧ .entry) ≡ badCount ⌝ }
+    ensures { λ _. do ⌜ (← ⟦Refusal::BAD_EXECUTION⟧ .entry) ≡ badExecution ⌝ }
+    ensures { λ _. do ⌜ (← ⟦Refusal::BAD_PARENT⟧ .entry) ≡ badParent ⌝ }
+    ensures { λ _. do ⌜ (← ⟦Refusal::BYTES_FOLLOW⟧ .entry) ≡ bytesFollow ⌝ }
+    ensures { λ _. do ⌜ (← ⟦Refusal::LOOP⟧ .entry) ≡ loop ⌝ }
+    ensures { λ _. do ⌜ (← ⟦Refusal::LONG_PATH⟧ .entry) ≡ longPath ⌝ }
+    ensures { λ _. do ⌜ (← ⟦Refusal::ID_STANDS⟧ .entry) ≡ idStands ⌝ }
+    ensures { λ _. do ⌜ (← ⟦Refusal::BOARD_FULL⟧ .entry) ≡ boardFull ⌝ }
+    ensures { λ _. do ⌜ (← ⟦Refusal::NOT_STANDING⟧ .entry) ≡ notStanding ⌝ }
+    ensures { λ _. do ⌜ (← ⟦Refusal::BAD_CORES⟧ .entry) ≡ badCores ⌝ }
+    ensures { λ _. do ⌜ (← ⟦Refusal::FEW_WORDS⟧ .entry) ≡ fewWords ⌝ }
+    ensures { λ _. do ⌜ (← ⟦Refusal::UNSOUND_BOARD⟧ .entry) ≡ unsoundBoard ⌝ }
+{}

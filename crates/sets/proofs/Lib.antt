@@ -1,0 +1,5 @@
+pub mod Bits
+pub mod Sizes
+pub mod Greatest
+pub mod Walks
+pub mod Rule

@@ -1,0 +1,4 @@
+pub mod Member
+pub mod Size
+pub mod Greatest
+pub mod Rule
