@@ -1,0 +1,5 @@
+pub mod Reaches
+pub mod Closure
+pub mod Ways
+pub mod Totals
+pub mod Order
