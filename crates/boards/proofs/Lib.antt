@@ -1,0 +1,10 @@
+pub mod Tests
+pub mod Find
+pub mod Sound
+pub mod Cases
+pub mod Keeping
+pub mod Figures
+pub mod Fractions
+pub mod Nodes
+pub mod Worked
+pub mod Held

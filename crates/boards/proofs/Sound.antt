@@ -1,0 +1,151 @@
+-- A sound board by its test: the test goes through the rows and asks of each what the statement says of it, so the one holds just where the
+-- other does.
+use mathlib.Core.Path.{_≡_, refl, sym, _∙_}
+use mathlib.Core.Logic.{_⊎_, inl, inr, ⊎-elim}
+use mathlib.Core.Bool.{Bool, true, false}
+use mathlib.Core.List.{List}
+use Prim.Native.Nat.{ℕ, _+_, _-_, _*_, _≤_, _<_, zero-le}
+use native.Mathlib.Nat.{le-trans, mul-le-mul}
+use native.Mathlib.Omega.{arith}
+use lib.Dec.{eqb}
+use lib.ListN.{length, replicate}
+use borrow.Author.Tests.{eqb-true, eqb-false, eq-eqb, ne-eqb, le-leb}
+use Rattle.plain.specs.Sums.{sumTo, maxTo}
+use Rattle.plain.proofs.Sums.{sumTo-le, maxTo-le}
+use Rattle.tables.specs.Limits.{idMax, countMax, densityMax, million}
+use Rattle.boards.specs.declared.Row.{Row}
+use Rattle.boards.specs.Row.{freeRow, rowsMax, rowAt}
+use Rattle.boards.specs.Sound.{Standing, Sound, between, isFree, isStanding, isSoundRow, isNew, isSound, allTo}
+use Rattle.boards.specs.Find.{placeOf}
+use Rattle.boards.specs.Verdict.{sumOf, largestOf, verdict}
+use Rattle.boards.proofs.Find.{place-before, place-is}
+use Rattle.boards.proofs.Tests.{true-false, not-held, pick-case, both-true, true-both, between-true, true-between, allTo-true, true-allTo}
+
+-- a free row
+pub free-test : (r : Row) → isFree r ≡ true → r ≡ freeRow
+free-test r e =
+    let a = both-true (eqb (r .id) 0) _ e in
+    let b = both-true (eqb (r .nodes) 0) _ (a .1) in
+    let c = both-true (eqb (r .sum) 0) (eqb (r .largest) 0) (b .1) in
+    same (eqb-true (r .id) 0 (a .0)) (eqb-true (r .nodes) 0 (b .0)) (eqb-true (r .sum) 0 (c .0)) (eqb-true (r .largest) 0 (c .1))
+  where
+    same : r .id ≡ 0 → r .nodes ≡ 0 → r .sum ≡ 0 → r .largest ≡ 0 → r ≡ freeRow
+    same p q s t = λ i. record { id = p i; nodes = q i; sum = s i; largest = t i }
+
+pub test-free : (r : Row) → r ≡ freeRow → isFree r ≡ true
+test-free r e = rw e
+
+-- a standing row
+pub standing-test : (r : Row) → isStanding r ≡ true → Standing r
+standing-test r e =
+    let a = both-true (between 1 (r .id) idMax) _ e in
+    let b = both-true (between 1 (r .nodes) countMax) _ (a .1) in
+    let c = both-true (between 1 (r .largest) densityMax) (between (r .largest) (r .sum) (r .nodes * r .largest)) (b .1) in
+    let i = between-true 1 (r .id) idMax (a .0) in
+    let n = between-true 1 (r .nodes) countMax (b .0) in
+    let l = between-true 1 (r .largest) densityMax (c .0) in
+    let s = between-true (r .largest) (r .sum) (r .nodes * r .largest) (c .1) in
+    record {
+      id-low = i .0;
+      id-high = i .1;
+      nodes-low = n .0;
+      nodes-high = n .1;
+      largest-low = l .0;
+      largest-high = l .1;
+      sum-low = s .0;
+      sum-high = s .1;
+    }
+
+pub test-standing : {r : Row} → Standing r → isStanding r ≡ true
+test-standing {r} s =
+    true-both (true-between 1 (r .id) idMax (s .id-low) (s .id-high))
+    (true-both (true-between 1 (r .nodes) countMax (s .nodes-low) (s .nodes-high))
+    (true-both (true-between 1 (r .largest) densityMax (s .largest-low) (s .largest-high))
+    (true-between (r .largest) (r .sum) (r .nodes * r .largest) (s .sum-low) (s .sum-high))))
+
+-- each is free or has the ranges
+pub row-test : (r : Row) → isSoundRow r ≡ true → (r ≡ freeRow) ⊎ Standing r
+unfolding isSoundRow
+row-test r e = pick-case (λ t. t ≡ true → (r ≡ freeRow) ⊎ Standing r) (isFree r) (λ q h. inl (free-test r q)) (λ q h. inr (standing-test r h)) e
+
+pub test-row : (r : Row) → (r ≡ freeRow) ⊎ Standing r → isSoundRow r ≡ true
+unfolding isSoundRow
+test-row r (inl e) = rw e
+test-row r (inr s) = pick-case (λ t. t ≡ true) (isFree r) (λ q. refl) (λ q. test-standing s)
+
+-- no id twice: where row i has row k's id, that is 0
+abbrev New : List Row → ℕ → Type 0
+New rows k = (i : ℕ) → i < k → rowAt rows i .id ≡ rowAt rows k .id → rowAt rows i .id ≡ 0
+
+new-test : (rows : List Row) (k : ℕ) → isNew rows k ≡ true → New rows k
+unfolding isNew
+new-test rows k e i h q =
+    pick-case (λ t. t ≡ true → rowAt rows i .id ≡ 0) (eqb (rowAt rows k .id) 0)
+    (λ z t. q ∙ eqb-true (rowAt rows k .id) 0 z)
+    (λ z t. absurd (true-false (allTo-true k _ t i h) (rw (eq-eqb (rowAt rows i .id) (rowAt rows k .id) q)))) e
+
+test-new : (rows : List Row) (k : ℕ) → New rows k → isNew rows k ≡ true
+unfolding isNew
+test-new rows k f =
+    pick-case (λ t. t ≡ true) (eqb (rowAt rows k .id) 0) (λ z. refl)
+    (λ z. true-allTo k _ (λ i h. rw (ne-eqb (rowAt rows i .id) (rowAt rows k .id) (λ q. eqb-false (rowAt rows k .id) 0 z (sym q ∙ f i h q)))))
+
+-- row k is the first with its id just where the id's place is k
+pub new-place : (rows : List Row) (k : ℕ) → k < length rows → (rowAt rows k .id ≡ 0 → ⊥) → isNew rows k ≡ eqb (placeOf (rowAt rows k .id) rows) k
+new-place rows k h n = go (eqb (placeOf (rowAt rows k .id) rows) k) refl
+  where
+    lowest : New rows k → placeOf (rowAt rows k .id) rows ≡ k
+    lowest f = place-is (rowAt rows k .id) rows k h refl (λ i l q. n (sym q ∙ f i l q))
+
+    go : (b : Bool) → eqb (placeOf (rowAt rows k .id) rows) k ≡ b → isNew rows k ≡ b
+    go true e = test-new rows k (λ i l q. absurd (place-before (rowAt rows k .id) rows i (rw (eqb-true (placeOf (rowAt rows k .id) rows) k e) l) q))
+    go false e = not-held (isNew rows k) (λ t. eqb-false (placeOf (rowAt rows k .id) rows) k e (lowest (new-test rows k t)))
+
+-- the whole test
+pub sound-test : (rows : List Row) → isSound rows ≡ true → Sound rows
+unfolding isSound
+sound-test rows e =
+    let w = both-true (eqb (length rows) rowsMax) _ e in
+    let at : (k : ℕ) → k < rowsMax → (isSoundRow (rowAt rows k) ≡ true) × (isNew rows k ≡ true) = λ k h. both-true (isSoundRow (rowAt rows k)) (isNew rows k) (allTo-true rowsMax _ (w .1) k h) in
+    record {
+      sixteen = eqb-true (length rows) rowsMax (w .0);
+      each = λ k h. row-test (rowAt rows k) (at k h .0);
+      once = λ i j l h q. new-test rows j (at j h .1) i l q;
+    }
+
+pub test-sound : {rows : List Row} → Sound rows → isSound rows ≡ true
+unfolding isSound
+test-sound {rows} s =
+    true-both (eq-eqb (length rows) rowsMax (s .sixteen)) (true-allTo rowsMax _ (λ k h. true-both (test-row (rowAt rows k) (s .each k h)) (test-new rows k (λ i l q. s .once i k l h q))))
+
+-- no figure of a sound board is greater than the ranges allow
+module _ {rows : List Row} (s : Sound rows) where
+  pub row-sum-le : (k : ℕ) → k < rowsMax → rowAt rows k .sum ≤ countMax * densityMax
+  row-sum-le k h = ⊎-elim (λ (e : rowAt rows k ≡ freeRow). rw e zero-le) (λ (t : Standing (rowAt rows k)). le-trans (t .sum-high) (mul-le-mul (t .nodes-high) (t .largest-high))) (s .each k h)
+
+  pub row-largest-le : (k : ℕ) → k < rowsMax → rowAt rows k .largest ≤ densityMax
+  row-largest-le k h = ⊎-elim (λ (e : rowAt rows k ≡ freeRow). rw e zero-le) (λ (t : Standing (rowAt rows k)). t .largest-high) (s .each k h)
+
+  pub sumOf-le : sumOf rows ≤ rowsMax * (countMax * densityMax)
+  unfolding sumOf
+  sumOf-le = sumTo-le rowsMax (countMax * densityMax) _ row-sum-le
+
+  pub largestOf-le : largestOf rows ≤ densityMax
+  unfolding largestOf
+  largestOf-le = maxTo-le rowsMax densityMax _ row-largest-le
+
+-- the empty board: sound, S and M are 0, and yes for any number of cores
+pub empty-sound : Sound (replicate rowsMax freeRow)
+unfolding isSound isSoundRow isNew allTo
+empty-sound = sound-test (replicate rowsMax freeRow) refl
+
+pub empty-sum : sumOf (replicate rowsMax freeRow) ≡ 0
+unfolding sumOf sumTo
+empty-sum = refl
+
+pub empty-largest : largestOf (replicate rowsMax freeRow) ≡ 0
+unfolding largestOf maxTo
+empty-largest = refl
+
+pub empty-yes : (m : ℕ) → verdict (replicate rowsMax freeRow) m ≡ true
+empty-yes m = rw (empty-sum, empty-largest) (le-leb (0 + (m - 1) * 0) (m * million) (omega arith))

@@ -1,0 +1,101 @@
+-- `boards::is_sound` meets its contract. The loop's invariant: the rows passed are sound and new; the first that isn't makes the whole test fail.
+use mathlib.Core.Path.{_≡_, refl, sym, _∙_}
+use mathlib.Core.Bool.{Bool, true, false}
+use mathlib.Core.List.{List}
+use Prim.Native.Nat.{ℕ, _-_, _≤_, _<_}
+use native.Mathlib.Omega.{arith}
+use borrow.Author.Needs.{needs}
+use borrow.Author.Tests.{eq-eqb}
+use Rattle.boards.specs.declared.Row.{Row}
+use Rattle.boards.specs.declared.Board.{Board}
+use Rattle.boards.specs.Row.{rowsMax, rowAt}
+use Rattle.boards.specs.Sound.{both, isSoundRow, isNew, isSound, allTo}
+use Rattle.boards.proofs.Held.{Held, sixteen}
+use Rattle.boards.proofs.Tests.{true-both, pick-yes, pick-no, passed, failed, allTo-none, allTo-more, allTo-false}
+use Rattle.boards.proofs.is_sound.Statement.{statement}
+use Rattle.boards.proofs.is_sound.Tie as tie
+
+-- the test of one row
+abbrev passes : List Row → ℕ → Bool
+passes rows k = both (isSoundRow (rowAt rows k)) (isNew rows k)
+
+-- with 16 rows, the whole test is that of the rows, and one that fails makes it fail
+whole : (b : Board) → Held b → {t : Bool} → t ≡ allTo rowsMax (passes (b .rows)) → t ≡ isSound (b .rows)
+unfolding isSound
+whole b h e = pick-yes _ (eq-eqb _ _ (sixteen b h)) e
+
+fails : (b : Board) → Held b → (k : ℕ) → k < rowsMax → false ≡ passes (b .rows) k → false ≡ isSound (b .rows)
+fails b h k l e = whole b h (sym (allTo-false rowsMax (passes (b .rows)) k l (sym e)))
+
+abbrev Inv-loop : tie.InvT-loop
+Inv-loop board k₀ k = (k ≤ rowsMax) × (allTo k (passes (board .rows)) ≡ true)
+
+abbrev μ-loop : tie.MeasureT-loop
+μ-loop board k₀ k = rowsMax - k
+
+loop-holds : tie.Need-loop-holds Inv-loop μ-loop
+loop-holds c = (omega arith, allTo-none _)
+
+mul-row : tie.Need-mul-row Inv-loop μ-loop
+mul-row c = omega arith
+
+element-copy-out-row : tie.Need-element-copy-out-row Inv-loop μ-loop
+element-copy-out-row c = omega arith
+
+is-sound-row-requires : tie.Need-is-sound-row-requires Inv-loop μ-loop
+is-sound-row-requires c κs = search needs
+
+returns : tie.Need-returns Inv-loop μ-loop
+returns c =
+    let head = c .before .before .before .before in
+    let start = head .before in
+    fails (start .args .t1) (start .good .0) (head .loop .k) (omega arith) (pick-no _ (failed (c .before .is-sound-row .ensures) (c .if1 .taken)) refl)
+
+is-new-requires : tie.Need-is-new-requires Inv-loop μ-loop
+is-new-requires c κs = omega arith
+
+returns-2 : tie.Need-returns-2 Inv-loop μ-loop
+returns-2 c =
+    let one = c .before .before in
+    let head = one .before .before .before .before in
+    let start = head .before in
+    fails (start .args .t1) (start .good .0) (head .loop .k) (omega arith)
+    (pick-yes _ (passed (one .before .is-sound-row .ensures) (one .if1 .left)) (sym (failed (c .before .is-new .ensures) (c .if2 .taken))))
+
+add-k : tie.Need-add-k Inv-loop μ-loop
+add-k c = omega arith
+
+loop-less : tie.Need-loop-less Inv-loop μ-loop
+loop-less c = omega arith
+
+loop-again : tie.Need-loop-again Inv-loop μ-loop
+loop-again c =
+    let one = c .before .before in
+    let head = one .before .before .before .before in
+    let here = true-both (passed (one .before .is-sound-row .ensures) (one .if1 .left)) (passed (c .before .is-new .ensures) (c .if2 .left)) in
+    (omega arith, allTo-more (head .loop .k) (passes (head .before .args .t1 .rows)) ∙ true-both (head .loop .inv .1) here)
+
+returns-3 : tie.Need-returns-3 Inv-loop μ-loop
+returns-3 c =
+    let head = c .before in
+    let start = head .before in
+    let end : head .loop .k ≡ rowsMax = omega arith in
+    whole (start .args .t1) (start .good .0) (sym (rw end at (head .loop .inv .1)))
+
+pub is-sound-spec : {M : Type 1} → statement M
+is-sound-spec =
+    tie.close
+    (tie.spec
+    Inv-loop
+    μ-loop
+    loop-holds
+    mul-row
+    element-copy-out-row
+    is-sound-row-requires
+    returns
+    is-new-requires
+    returns-2
+    add-k
+    loop-less
+    loop-again
+    returns-3)

@@ -1,0 +1,22 @@
+-- One row of the board: "id, node count, density sum and largest density".
+use mathlib.Core.List.{List}
+use Prim.Native.Nat.{ℕ}
+use lib.ListN.{getD}
+use Rattle.plain.specs.Sums.{sumTo, maxTo}
+use Rattle.boards.specs.declared.Row.{Row}
+
+-- "A free row is all zeros"
+abbrev pub freeRow : Row
+freeRow = record { id = 0; nodes = 0; sum = 0; largest = 0 }
+
+-- "a lent slice of 16 rows"
+abbrev pub rowsMax : ℕ
+rowsMax = 16
+
+-- row number k; a free one past the end
+abbrev pub rowAt : List Row → ℕ → Row
+rowAt rows k = getD rows k freeRow
+
+-- the figures of a task of n nodes with these densities: "the total and the largest of this task's node densities"
+abbrev pub figures : ℕ → ℕ → (ℕ → ℕ) → Row
+figures id n density = record { id = id; nodes = n; sum = sumTo n density; largest = maxTo n density }

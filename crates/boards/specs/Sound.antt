@@ -1,0 +1,64 @@
+-- When a board is sound, as a statement and as a test that computes it.
+use mathlib.Core.Path.{_≡_}
+use mathlib.Core.Logic.{_⊎_}
+use mathlib.Core.Bool.{Bool, true, false}
+use mathlib.Core.List.{List}
+use Prim.Native.Nat.{ℕ, zero, suc, _*_, _≤_, _<_}
+use lib.Dec.{eqb, leb}
+use lib.ListN.{length}
+use Rattle.plain.specs.Pick.{pick}
+use Rattle.tables.specs.Limits.{idMax, countMax, densityMax}
+use Rattle.boards.specs.declared.Row.{Row}
+use Rattle.boards.specs.Row.{freeRow, rowsMax, rowAt}
+
+-- "id 1..65,535, nodes 1..64, largest 1..2,000,000, and largest ≤ sum ≤ nodes × largest"
+pub record Standing (r : Row) : Type 0 where
+  pub id-low : 1 ≤ r .id
+  pub id-high : r .id ≤ idMax
+  pub nodes-low : 1 ≤ r .nodes
+  pub nodes-high : r .nodes ≤ countMax
+  pub largest-low : 1 ≤ r .largest
+  pub largest-high : r .largest ≤ densityMax
+  pub sum-low : r .largest ≤ r .sum
+  pub sum-high : r .sum ≤ r .nodes * r .largest
+
+-- "Sound: 16 rows; each is free or has ..; no id twice"
+pub record Sound (rows : List Row) : Type 0 where
+  pub sixteen : length rows ≡ rowsMax
+  pub each : (k : ℕ) → k < rowsMax → (rowAt rows k ≡ freeRow) ⊎ Standing (rowAt rows k)
+  pub once : (i j : ℕ) → i < j → j < rowsMax → rowAt rows i .id ≡ rowAt rows j .id → rowAt rows i .id ≡ 0
+
+-- both tests hold
+abbrev pub both : Bool → Bool → Bool
+both a b = pick a b false
+
+-- the row is all zeros
+abbrev pub isFree : Row → Bool
+isFree r = both (eqb (r .id) 0) (both (eqb (r .nodes) 0) (both (eqb (r .sum) 0) (eqb (r .largest) 0)))
+
+-- the number lies in lo..hi
+abbrev pub between : ℕ → ℕ → ℕ → Bool
+between lo x hi = both (leb lo x) (leb x hi)
+
+-- the ranges of a standing row
+abbrev pub isStanding : Row → Bool
+isStanding r =
+    both (between 1 (r .id) idMax) (both (between 1 (r .nodes) countMax)
+    (both (between 1 (r .largest) densityMax) (between (r .largest) (r .sum) (r .nodes * r .largest))))
+
+-- "each is free or has .."
+unfoldable pub isSoundRow : Row → Bool
+isSoundRow r = pick (isFree r) true (isStanding r)
+
+-- the test holds of each of the first n numbers
+unfoldable pub allTo : ℕ → (ℕ → Bool) → Bool
+allTo zero f = true
+allTo (suc n) f = both (allTo n f) (f n)
+
+-- row k has no id that an earlier row has; id 0 doesn't count
+unfoldable pub isNew : List Row → ℕ → Bool
+isNew rows k = pick (eqb (rowAt rows k .id) 0) true (allTo k (λ i. pick (eqb (rowAt rows i .id) (rowAt rows k .id)) false true))
+
+-- the whole test
+unfoldable pub isSound : List Row → Bool
+isSound rows = both (eqb (length rows) rowsMax) (allTo rowsMax (λ k. both (isSoundRow (rowAt rows k)) (isNew rows k)))

@@ -1,0 +1,92 @@
+// Numbers in groups of seven bits, lowest group first.
+ghost use mathlib.Core.Path.{_≡_};
+ghost use Prim.Native.Nat.{ℕ, _≤_};
+ghost use mathlib.Core.List.{List};
+ghost use Rattle.numbers.specs.Number.{before, number, recordMore};
+
+// A number with the bytes it takes; or its fault. A padded number has its value and length all the same.
+pub enum Number {
+    Value { value: u64, length: usize },
+    Ended,
+    TooLong,
+    NotShortest { value: u64, length: usize },
+}
+
+// A record's number has at most this many bytes after its first.
+const RECORD_MORE: u64 = 3;
+
+fn wide(x: u8) -> u64
+    ensures { λ r. ⌜ r ≡ x ⌝ }
+{
+    x as u64
+}
+
+// A byte with its top bit set, before a rest of at most eight bytes that was read.
+fn before(byte: u64, rest: Number) -> Number
+    requires { ⌜ ((more : ℕ) × (s : List ℕ) × (rest ≡ number more s) × (more ≤ 7)) ⌝ }
+    ensures { λ r. ⌜ r ≡ before byte rest ⌝ }
+{
+    match rest {
+        Number::Value { value, length } => {
+            if value == 0 {
+                Number::NotShortest {
+                    value: byte % 128,
+                    length: length + 1,
+                }
+            } else {
+                Number::Value {
+                    value: byte % 128 + 128 * value,
+                    length: length + 1,
+                }
+            }
+        }
+        Number::NotShortest { value, length } => Number::NotShortest {
+            value: byte % 128 + 128 * value,
+            length: length + 1,
+        },
+        Number::Ended | Number::TooLong => rest,
+    }
+}
+
+// A number of one byte; too long where more are needed.
+fn one_byte(rest: &[u8]) -> Number
+    ensures { λ r. ⌜ r ≡ number 0 (now (rest .entry)) ⌝ }
+{
+    if rest.len() == 0 {
+        return Number::Ended;
+    }
+    let byte = wide(rest[0]);
+    if byte < 128 {
+        return Number::Value {
+            value: byte,
+            length: 1,
+        };
+    }
+    Number::TooLong
+}
+
+// The number at the front of rest, of at most more bytes after its first.
+pub fn number_within(rest: &[u8], more: u64) -> Number
+    requires { ⌜ more ≤ 8 ⌝ }
+    ensures { λ r. ⌜ r ≡ number more (now (rest .entry)) ⌝ }
+{
+    let first = one_byte(rest);
+    let Number::TooLong = first else {
+        return first;
+    };
+    if more == 0 {
+        return first;
+    }
+    before(wide(rest[0]), number_within(&rest[1..], more - 1))
+}
+
+// A record's number at the front of rest. Most are one byte, so that is tried first.
+pub fn read_number(rest: &[u8]) -> Number
+    ensures { λ r. ⌜ r ≡ number recordMore (now (rest .entry)) ⌝ }
+{
+    let first = one_byte(rest);
+    let Number::TooLong = first else {
+        return first;
+    };
+    number_within(rest, RECORD_MORE)
+}

@@ -1,0 +1,112 @@
+-- The definitions case by case: each test that the code makes picks one clause.
+use Prim.Native.Nat.{ℕ, zero, suc, _+_, _-_, _^_, _≤_, _<_}
+use mathlib.Core.Path.{_≡_, refl, sym, ap, _∙_}
+use mathlib.Core.Logic.{_⊎_, ⊎-elim}
+use mathlib.Core.Bool.{and-false}
+use mathlib.Core.List.{List, [], _∷_}
+use native.Mathlib.Omega.{arith}
+use lib.ListN.{length, take, drop}
+use borrow.Author.Tests.{le-leb, lt-leb, le-ltb, lt-ltb}
+use types.Run.{OneOf}
+use denote.Enum.Declared.{tagOf}
+use Rattle.refusals.specs.declared.Refusal.{Refusal}
+use Rattle.refusals.specs.Numbers.{badForm, badExecution, badParent, bytesFollow}
+use Rattle.tables.specs.declared.TaskTable.{TaskTable}
+use Rattle.tables.specs.Limits.{executionMax}
+use Rattle.numbers.proofs.Number.{the-type}
+use Rattle.numbers.proofs.Cases.{part-from}
+use Rattle.numbers.specs.declared.Number.{Number}
+use Rattle.numbers.specs.declared.Number.the-variants.{Value, Ended, TooLong, NotShortest}
+use Rattle.numbers.specs.Number.{number, recordMore}
+use Rattle.records.specs.declared.Step.{Step}
+use Rattle.records.specs.declared.Step.the-variants.{Read, Refused}
+use Rattle.records.specs.Step.{refusal, andThen}
+use Rattle.records.specs.Ranged.{stepOf, whole, ranged}
+use Rattle.records.specs.Parents.{parents, parentSet}
+use Rattle.records.specs.Nodes.{accepted, refused, withNode, nothingFollows, nodes}
+
+-- a step that read, and one that refused
+pub then-read : {A : Type 0} (out : Refusal → A) (step : Step) (more : ℕ → ℕ → A) (v next : ℕ) → step ≡ Read v next →
+    andThen out step more ≡ more v next
+unfolding andThen
+then-read out step more v next e = rw e
+
+pub then-refused : {A : Type 0} (out : Refusal → A) (step : Step) (more : ℕ → ℕ → A) (r : Refusal) → step ≡ Refused r → andThen out step more ≡ out r
+unfolding andThen
+then-refused out step more r e = rw e
+
+-- a refusal is the same whatever would have come after it
+pub then-out : {A : Type 0} (out : Refusal → A) (step found : Step) (more instead : ℕ → ℕ → A) (r : Refusal) →
+    found ≡ step → found ≡ Refused r → andThen out found instead ≡ andThen out step more
+then-out out step found more instead r e d = then-refused _ _ _ _ d ∙ sym (then-refused _ _ _ _ (sym e ∙ d))
+
+-- a number that neither ended nor has a value
+bad-form : (size at : ℕ) (found : Number) →
+    OneOf (0 ∷ 2 ∷ 3 ∷ []) (tagOf the-type found) → OneOf (1 ∷ 2 ∷ 3 ∷ []) (tagOf the-type found) →
+    stepOf size at found ≡ Refused (refusal badForm at)
+bad-form size at (Value v n) g h = absurd (⊎-elim (λ e. omega arith) (⊎-elim (λ e. omega arith) (λ e. omega arith)) h)
+bad-form size at Ended g h = absurd (⊎-elim (λ e. omega arith) (⊎-elim (λ e. omega arith) (λ e. omega arith)) g)
+bad-form size at TooLong g h = refl
+bad-form size at (NotShortest v n) g h = refl
+
+-- what the number reader found in the part that it was handed
+module _ (s : List ℕ) (at : ℕ) (found : Number) (e : found ≡ number recordMore (take (length s - at) (drop at s))) where
+  pub whole-is : (r : Number) → found ≡ r → whole s at ≡ stepOf (length s) at r
+  unfolding whole
+  whole-is r d = ap (stepOf (length s) at) (ap (number recordMore) (sym (part-from at s)) ∙ sym e ∙ d)
+
+  pub whole-bad : OneOf (0 ∷ 2 ∷ 3 ∷ []) (tagOf the-type found) → OneOf (1 ∷ 2 ∷ 3 ∷ []) (tagOf the-type found) →
+      whole s at ≡ Refused (refusal badForm at)
+  whole-bad g h = whole-is found refl ∙ bad-form (length s) at found g h
+
+-- a number that is not whole; one that is, outside its range and in it
+pub ranged-refused : (broken low high : ℕ) (s : List ℕ) (at : ℕ) (r : Refusal) → whole s at ≡ Refused r →
+    ranged broken low high s at ≡ Refused r
+unfolding ranged
+ranged-refused broken low high s at r e = then-refused _ _ _ _ e
+
+module _ (broken low high : ℕ) (s : List ℕ) (at v next : ℕ) (e : whole s at ≡ Read v next) where
+  pub ranged-out : (v < low) ⊎ (high < v) → ranged broken low high s at ≡ Refused (refusal broken at)
+  unfolding ranged
+  ranged-out h = then-read _ _ _ _ _ e ∙ ⊎-elim (λ l. simp (lt-leb low v l)) (λ g. simp (lt-leb v high g, and-false)) h
+
+  pub ranged-in : low ≤ v → v ≤ high → ranged broken low high s at ≡ Read v next
+  unfolding ranged
+  ranged-in l g = then-read _ _ _ _ _ e ∙ simp (le-leb low v l, le-leb v high g)
+
+-- no parent left, and one more
+module _ (n low set : ℕ) (s : List ℕ) (at : ℕ) where
+  pub parents-none : (k : ℕ) → k ≤ 0 → parents k n low set s at ≡ Read set at
+  unfolding parents
+  parents-none zero h = refl
+  parents-none (suc k) h = absurd (omega arith)
+
+  pub parents-more : (k : ℕ) → 0 < k → parents k n low set s at ≡
+      andThen Refused (ranged badParent low (n - 1) s at) λ p next.
+      parents (k - 1) n (p + 1) (set + 2 ^ p) s next
+  unfolding parents
+  parents-more zero h = absurd (omega arith)
+  parents-more (suc k) h = let e : suc k - 1 ≡ k = omega arith in rw e
+
+-- a byte follows, and none does
+module _ (t : TaskTable) (s : List ℕ) (at : ℕ) where
+  pub some-follow : at < length s → nothingFollows t s at ≡ refused (refusal bytesFollow at)
+  unfolding nothingFollows
+  some-follow h = simp (lt-ltb _ _ h)
+
+  pub none-follow : length s ≤ at → nothingFollows t s at ≡ accepted t
+  unfolding nothingFollows
+  none-follow h = simp (le-ltb _ _ h)
+
+-- of n nodes none is left, and one more is
+module _ (i n : ℕ) (t : TaskTable) (s : List ℕ) (at : ℕ) where
+  pub nodes-none : n ≤ i → nodes (n - i) i t s at ≡ nothingFollows t s at
+  unfolding nodes
+  nodes-none h = let e : n - i ≡ 0 = omega arith in rw (e, nodes)
+
+  pub nodes-more : i < n → t .count ≡ n → nodes (n - i) i t s at ≡
+      andThen refused (ranged badExecution 1 executionMax s at) λ e at₁.
+      andThen refused (parentSet n s at₁) λ w at₂.
+      nodes (n - (i + 1)) (i + 1) (withNode t i e w) s at₂
+  unfolding nodes
+  nodes-more h d = let e : n - i ≡ suc (n - (i + 1)) = omega arith in rw (e, nodes, ← d)

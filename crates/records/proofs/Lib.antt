@@ -1,0 +1,4 @@
+pub mod Cases
+pub mod Inside
+pub mod Answers
+pub mod Worked

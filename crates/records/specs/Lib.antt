@@ -1,0 +1,5 @@
+pub mod Step
+pub mod Ranged
+pub mod Parents
+pub mod Nodes
+pub mod Reading

@@ -1,0 +1,40 @@
+-- The nodes of a record, and what reading comes to.
+use Prim.Native.Nat.{ℕ, zero, suc, _+_}
+use mathlib.Core.List.{List}
+use lib.ListN.{length, set}
+use lib.Dec.{ltb}
+use Rattle.plain.specs.Pick.{pick}
+use Rattle.refusals.specs.declared.Refusal.{Refusal}
+use Rattle.refusals.specs.Numbers.{badExecution, bytesFollow}
+use Rattle.tables.specs.declared.TaskTable.{TaskTable}
+use Rattle.tables.specs.Limits.{executionMax}
+use Rattle.tables.specs.Table.{emptyTable}
+use Rattle.records.specs.declared.Outcome.the-variants.{Accepted, Refused}
+use Rattle.records.specs.declared.Reading.{Reading}
+use Rattle.records.specs.Step.{refusal, andThen}
+use Rattle.records.specs.Ranged.{ranged}
+use Rattle.records.specs.Parents.{parentSet}
+
+-- "The table read from a record"
+abbrev pub accepted : TaskTable → Reading
+accepted t = record { outcome = Accepted; table = t }
+
+-- "A refusal returns its number and place, and with them, from any reader of a table, a table that is all zeros"
+abbrev pub refused : Refusal → Reading
+refused r = record { outcome = Refused r; table = emptyTable }
+
+-- the table with node i's execution and its parent set, "a set being one 64-bit word"
+abbrev pub withNode : TaskTable → ℕ → ℕ → ℕ → TaskTable
+withNode t i e w = record { id = t .id; period = t .period; count = t .count; execution = set (t .execution) i e; parents = set (t .parents) i w }
+
+-- "Nothing follows.": 9 stands at the "first such byte"
+unfoldable pub nothingFollows : TaskTable → List ℕ → ℕ → Reading
+nothingFollows t s at = pick (ltb at (length s)) (refused (refusal bytesFollow at)) (accepted t)
+
+-- "then for each node 0..n-1 its execution (1..65,535), its parent count (0..n) and that many parent numbers": k nodes from node i on
+unfoldable pub nodes : ℕ → ℕ → TaskTable → List ℕ → ℕ → Reading
+nodes zero i t s at = nothingFollows t s at
+nodes (suc k) i t s at =
+    andThen refused (ranged badExecution 1 executionMax s at) λ e at₁.
+    andThen refused (parentSet (t .count) s at₁) λ w at₂.
+    nodes k (i + 1) (withNode t i e w) s at₂

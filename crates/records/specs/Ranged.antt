@@ -1,0 +1,31 @@
+-- "Each number is read whole (1, 2) before its range is tried."
+use Prim.Native.Nat.{ℕ, _+_}
+use mathlib.Core.Bool.{_&&_}
+use mathlib.Core.List.{List}
+use lib.ListN.{length, drop}
+use lib.Dec.{leb}
+use Rattle.plain.specs.Pick.{pick}
+use Rattle.refusals.specs.Numbers.{ended, badForm}
+use Rattle.numbers.specs.declared.Number.{Number}
+use Rattle.numbers.specs.declared.Number.the-variants.{Value, Ended, TooLong, NotShortest}
+use Rattle.numbers.specs.Number.{number, recordMore}
+use Rattle.records.specs.declared.Step.{Step}
+use Rattle.records.specs.declared.Step.the-variants.{Read, Refused}
+use Rattle.records.specs.Step.{refusal, andThen}
+
+-- 1 stands at the "input length", 2 at the "number's first byte": what was found at `at` of an input of `size` bytes
+abbrev pub stepOf : ℕ → ℕ → Number → Step
+stepOf size at (Value v n) = Read v (at + n)
+stepOf size at Ended = Refused (refusal ended size)
+stepOf size at TooLong = Refused (refusal badForm at)
+stepOf size at (NotShortest v n) = Refused (refusal badForm at)
+
+-- "The reader works on the rest of the record from the byte it has reached."
+unfoldable pub whole : List ℕ → ℕ → Step
+whole s at = stepOf (length s) at (number recordMore (drop at s))
+
+-- "before its range is tried": outside low..high it is refused by `broken`, at "that number"
+unfoldable pub ranged : ℕ → ℕ → ℕ → List ℕ → ℕ → Step
+ranged broken low high s at =
+    andThen Refused (whole s at) λ v next.
+    pick (leb low v && leb v high) (Read v next) (Refused (refusal broken at))

@@ -1,0 +1,33 @@
+-- A whole record, number by number.
+use Prim.Native.Nat.{ℕ}
+use mathlib.Core.List.{List}
+use Rattle.refusals.specs.Numbers.{badEdition, badId, badPeriod, badCount}
+use Rattle.tables.specs.declared.TaskTable.{TaskTable}
+use Rattle.tables.specs.Limits.{idMax, periodMax, countMax}
+use Rattle.tables.specs.Table.{emptyTable}
+use Rattle.records.specs.declared.Reading.{Reading}
+use Rattle.records.specs.Step.{andThen}
+use Rattle.records.specs.Ranged.{ranged}
+use Rattle.records.specs.Nodes.{refused, nodes}
+
+-- "edition (1)"
+abbrev pub edition : ℕ
+edition = 1
+
+-- a table before its nodes are read: "Entries past the node count are 0."
+abbrev pub headed : ℕ → ℕ → ℕ → TaskTable
+headed id period n = record { id = id; period = period; count = n; execution = emptyTable .execution; parents = emptyTable .parents }
+
+-- "period (1..16,777,215); node count n (1..64);" and then the nodes
+unfoldable pub fromPeriod : ℕ → List ℕ → ℕ → Reading
+fromPeriod id s at =
+    andThen refused (ranged badPeriod 1 periodMax s at) λ period at₁.
+    andThen refused (ranged badCount 1 countMax s at₁) λ n at₂.
+    nodes n 0 (headed id period n) s at₂
+
+-- "A record is, in order: edition (1); task id (1..65,535);" and then the period and what is after it
+unfoldable pub readingOf : List ℕ → Reading
+readingOf s =
+    andThen refused (ranged badEdition edition edition s 0) λ _ at₁.
+    andThen refused (ranged badId 1 idMax s at₁) λ id at₂.
+    fromPeriod id s at₂

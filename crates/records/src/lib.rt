@@ -1,0 +1,225 @@
+// Reads a task record.
+use numbers::Number;
+use refusals::Refusal;
+use tables::TaskTable;
+ghost use mathlib.Core.Path.{_≡_};
+ghost use Prim.Native.Nat.{_≤_};
+ghost use lib.ListN.{length};
+ghost use Rattle.tables.specs.Limits.{countMax};
+ghost use Rattle.tables.specs.Table.{emptyTable};
+ghost use Rattle.records.specs.Step.{refusal, andThen};
+ghost use Rattle.records.specs.Ranged.{whole, ranged};
+ghost use Rattle.records.specs.Parents.{parents, parentSet};
+ghost use Rattle.records.specs.Nodes.{accepted, refused, nothingFollows, nodes};
+ghost use Rattle.records.specs.Reading.{fromPeriod, readingOf};
+
+// A value with the place after it, or a refusal.
+pub enum Step {
+    Read { value: u64, next: usize },
+    Refused(Refusal),
+}
+
+pub enum Outcome {
+    Accepted,
+    Refused(Refusal),
+}
+
+// What a record comes to. A refusal has a table that is all zeros.
+pub struct Reading {
+    pub outcome: Outcome,
+    pub table: TaskTable,
+}
+
+const EDITION: u64 = 1;
+
+fn refuse(number: u64, place: usize) -> Step
+    ensures { λ r. ⌜ r ≡ Step.Refused (refusal number place) ⌝ }
+{
+    Step::Refused(Refusal { number, place })
+}
+
+// The number at a place, whole.
+fn read_whole(bytes: &[u8], at: usize) -> Step
+    requires { ⌜ at ≤ length (now bytes) ⌝ }
+    ensures { λ r. ⌜ r ≡ whole (now (bytes .entry)) at ⌝ }
+{
+    let found = numbers::read_number(&bytes[at..]);
+    if let Number::Ended = found {
+        return refuse(Refusal::ENDED, bytes.len());
+    }
+    let Number::Value { value, length } = found else {
+        return refuse(Refusal::BAD_FORM, at);
+    };
+    Step::Read {
+        value,
+        next: at + length,
+    }
+}
+
+// The number at a place, and only then its range.
+fn read_ranged(bytes: &[u8], at: usize, broken: u64, low: u64, high: u64) -> Step
+    requires { ⌜ at ≤ length (now bytes) ⌝ }
+    ensures { λ r. ⌜ r ≡ ranged broken low high (now (bytes .entry)) at ⌝ }
+{
+    let step = read_whole(bytes, at);
+    let Step::Read { value, next } = step else {
+        return step;
+    };
+    if value < low || high < value {
+        return refuse(broken, at);
+    }
+    Step::Read { value, next }
+}
+
+// As many parent numbers as count says, each below n and above the one before, as a set.
+fn read_parents(bytes: &[u8], from: usize, count: u64, n: u64) -> Step
+    requires { ⌜ (1 ≤ n) × (n ≤ countMax) × (from ≤ length (now bytes)) ⌝ }
+    ensures { λ r. ⌜ r ≡ parents count n 0 0 (now (bytes .entry)) from ⌝ }
+{
+    let mut left = count;
+    let mut low: u64 = 0;
+    let mut set: u64 = 0;
+    let mut at = from;
+    while 0 < left {
+        let step = read_ranged(bytes, at, Refusal::BAD_PARENT, low, n - 1);
+        let Step::Read { value, next } = step else {
+            return step;
+        };
+        set = set + (1 << value);
+        low = value + 1;
+        at = next;
+        left = left - 1;
+    }
+    Step::Read {
+        value: set,
+        next: at,
+    }
+}
+
+// The parent count at a place, and that many parents.
+fn read_parent_set(bytes: &[u8], at: usize, n: u64) -> Step
+    requires { ⌜ (1 ≤ n) × (n ≤ countMax) × (at ≤ length (now bytes)) ⌝ }
+    ensures { λ r. ⌜ r ≡ parentSet n (now (bytes .entry)) at ⌝ }
+{
+    let step = read_ranged(bytes, at, Refusal::BAD_PARENT, 0, n);
+    let Step::Read { value: count, next } = step else {
+        return step;
+    };
+    read_parents(bytes, next, count, n)
+}
+
+// A refusal on its way out, beside a table that is all zeros.
+fn rejected(step: Step) -> Reading
+    ensures { λ r. ⌜ r ≡ andThen refused step (λ _ _. accepted emptyTable) ⌝ }
+{
+    let table = TaskTable::empty();
+    match step {
+        Step::Read { value: _, next: _ } => Reading {
+            outcome: Outcome::Accepted,
+            table,
+        },
+        Step::Refused(refusal) => Reading {
+            outcome: Outcome::Refused(refusal),
+            table,
+        },
+    }
+}
+
+// A whole table, where no byte follows it.
+fn nothing_follows(bytes: &[u8], at: usize, table: TaskTable) -> Reading
+    ensures { λ r. ⌜ r ≡ nothingFollows table (now (bytes .entry)) at ⌝ }
+{
+    if at < bytes.len() {
+        return rejected(refuse(Refusal::BYTES_FOLLOW, at));
+    }
+    Reading {
+        outcome: Outcome::Accepted,
+        table,
+    }
+}
+
+// The nodes of a table whose head was read, into it.
+fn read_nodes(bytes: &[u8], from: usize, head: TaskTable) -> Reading
+    requires { ⌜ (1 ≤ head .count) × (head .count ≤ countMax) × (from ≤ length (now bytes)) ⌝ }
+    ensures { λ r. ⌜ r ≡ nodes (head .count) 0 head (now (bytes .entry)) from ⌝ }
+{
+    let n = head.count;
+    let mut table = head;
+    let mut at = from;
+    let mut i: usize = 0;
+    while i < n {
+        let first = read_ranged(
+            bytes,
+            at,
+            Refusal::BAD_EXECUTION,
+            1,
+            TaskTable::EXECUTION_MAX,
+        );
+        let Step::Read {
+            value: execution,
+            next: after,
+        } = first
+        else {
+            return rejected(first);
+        };
+        let second = read_parent_set(bytes, after, n as u64);
+        let Step::Read {
+            value: parents,
+            next,
+        } = second
+        else {
+            return rejected(second);
+        };
+        table.execution[i] = execution;
+        table.parents[i] = parents;
+        at = next;
+        i = i + 1;
+    }
+    nothing_follows(bytes, at, table)
+}
+
+// A record from its period on.
+fn read_from_period(bytes: &[u8], at: usize, id: u64) -> Reading
+    requires { ⌜ at ≤ length (now bytes) ⌝ }
+    ensures { λ r. ⌜ r ≡ fromPeriod id (now (bytes .entry)) at ⌝ }
+{
+    let first = read_ranged(bytes, at, Refusal::BAD_PERIOD, 1, TaskTable::PERIOD_MAX);
+    let Step::Read {
+        value: period,
+        next: after,
+    } = first
+    else {
+        return rejected(first);
+    };
+    let second = read_ranged(bytes, after, Refusal::BAD_COUNT, 1, TaskTable::COUNT_MAX);
+    let Step::Read { value: count, next } = second else {
+        return rejected(second);
+    };
+    let table = TaskTable {
+        id,
+        period,
+        count: count as usize,
+        execution: [0; 64],
+        parents: [0; 64],
+    };
+    read_nodes(bytes, next, table)
+}
+
+// The table that a record holds, or the refusal of the first rule that it breaks.
+pub fn read_record(bytes: &[u8]) -> Reading
+    ensures { λ r. ⌜ r ≡ readingOf (now (bytes .entry)) ⌝ }
+{
+    let first = read_ranged(bytes, 0, Refusal::BAD_EDITION, EDITION, EDITION);
+    let Step::Read {
+        value: _,
+        next: after,
+    } = first
+    else {
+        return rejected(first);
+    };
+    let second = read_ranged(bytes, after, Refusal::BAD_ID, 1, TaskTable::ID_MAX);
+    let Step::Read { value: id, next } = second else {
+        return rejected(second);
+    };
+    read_from_period(bytes, next, id)
+}
