@@ -1,0 +1,73 @@
+-- Every accepted table's plan keeps what demand 3 says. The period and the work are shared out because the three share cases are made so; a
+-- node's deadline is a sum over its segments, each at least half its length; and offsets and deadlines are the timing diagram in stretched
+-- time, which ends at the period.
+use mathlib.Core.Path.{_≡_, refl, sym, ap, _∙_}
+use Prim.Native.Nat.{ℕ, _+_, _*_, _≤_, _<_}
+use native.Mathlib.Nat.{le-trans, mul-comm}
+use native.Mathlib.Omega.{arith}
+use Rattle.plain.specs.At.{at, tab}
+use Rattle.plain.specs.Sums.{sumTo}
+use Rattle.plain.proofs.Lists.{at-tab}
+use Rattle.sets.specs.Member.{Member}
+use Rattle.tables.specs.declared.TaskTable.{TaskTable}
+use Rattle.ways.specs.Ways.{begins, ends}
+use Rattle.ways.proofs.Reaches.{parent-lt}
+use Rattle.ways.proofs.Ways.{ends-begins, parent-ends}
+use Rattle.segments.specs.Share.{by}
+use Rattle.segments.proofs.Shares.{by-le, share-lengths, share-half}
+use Rattle.shares.proofs.Fair as fair
+use Rattle.plans.specs.Diagram.{start, finish, segmentCount}
+use Rattle.plans.specs.Shares.{over, numeratorOf, deadline, offset}
+use Rattle.plans.specs.Accepted.{Accepted}
+use Rattle.plans.specs.Kept.{Kept}
+use Rattle.plans.proofs.Table.{tidy, free, diagram, cutting}
+use Rattle.plans.proofs.Stretched.{ends-stretched, offset-stretched}
+
+module _ {t : TaskTable} (ok : Accepted t) where
+  -- a node's offset is D(start), and offset plus deadline is D(finish), which its children wait for
+  pub offset-by : (v : ℕ) → v < t .count → offset t v ≡ by (t .count) (finish t) (numeratorOf t) (start t v)
+  unfolding offset deadline
+  offset-by v h = offset-stretched (t .parents) (t .execution) (t .count) (tidy ok) (free ok) (numeratorOf t) v h
+
+  pub ends-by : (v : ℕ) → v < t .count → offset t v + deadline t v ≡ by (t .count) (finish t) (numeratorOf t) (finish t v)
+  unfolding offset deadline
+  ends-by v h =
+      let a = ends-begins (t .parents) (tab (t .count) (deadline t)) (t .count) (tidy ok) (free ok) v h in
+      let b = at-tab (t .count) (deadline t) v h in
+      let c = ends-stretched (t .parents) (t .execution) (t .count) (tidy ok) (free ok) (numeratorOf t) v h in
+      omega arith
+
+  pub whole : sumTo (segmentCount t) (numeratorOf t) ≡ t .period * over t
+  unfolding numeratorOf
+  whole = fair.whole (cutting ok)
+
+  half : (v : ℕ) → v < t .count → at (t .execution) v * over t ≤ 2 * deadline t v
+  unfolding deadline numeratorOf
+  half v h =
+      let a = share-half (diagram ok) (numeratorOf t) (over t) (λ j l. let b = fair.half (cutting ok) j l in let c = mul-comm (numeratorOf t j) 2 in omega arith) v h in
+      let d = mul-comm (deadline t v) 2 in
+      omega arith
+
+  after : (v p : ℕ) → v < t .count → Member p (at (t .parents) v) → offset t p + deadline t p ≤ offset t v
+  unfolding offset
+  after v p h m =
+      let W = tab (t .count) (deadline t) in
+      let l = parent-lt (t .parents) (t .count) (tidy ok) v p m in
+      let a = ends-begins (t .parents) W (t .count) (tidy ok) (free ok) p l in
+      let b = at-tab (t .count) (deadline t) p l in
+      let c = parent-ends (t .parents) W (t .count) (tidy ok) v p m in
+      omega arith
+
+  -- the sentences of demand 3
+  pub kept : Kept t
+  unfolding numeratorOf
+  kept = record {
+    over-some = fair.over-some (cutting ok);
+    whole-period = whole;
+    all-work = sym (cutting ok .work);
+    each-work = share-lengths (diagram ok);
+    after-parents = after;
+    within-period = λ v h. let a = ends-by v h in let b = by-le (t .count) (finish t) (numeratorOf t) (finish t v) in let c = whole in omega arith;
+    at-least-half = half;
+    thin = fair.thin (cutting ok);
+  }

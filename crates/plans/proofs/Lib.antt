@@ -1,0 +1,8 @@
+pub mod Stretched
+pub mod Table
+pub mod Kept
+pub mod Tests
+pub mod Front
+pub mod Drawing
+pub mod Nodes
+mod Worked

@@ -1,0 +1,82 @@
+-- What a table comes to by the tests that the planner makes, in their order.
+use mathlib.Core.Path.{_≡_, refl}
+use mathlib.Core.Bool.{Bool, true, false}
+use mathlib.Core.List.{List}
+use Prim.Native.Nat.{ℕ, _≤_, _<_}
+use native.Mathlib.Omega.{arith}
+use borrow.Author.Tests.{lt-ltb, le-ltb}
+use lib.Dec.{ltb}
+use lib.ListN.{length}
+use Rattle.plain.specs.Pick.{pick}
+use Rattle.refusals.specs.Numbers.{loop, longPath, fewWords}
+use Rattle.tables.specs.declared.TaskTable.{TaskTable}
+use Rattle.refusals.specs.declared.Refusal.{Refusal}
+use Rattle.records.specs.declared.Outcome.{Outcome}
+use Rattle.records.specs.declared.Reading.{Reading}
+use Rattle.records.specs.declared.Outcome.the-variants.{Accepted, Refused}
+use Rattle.records.specs.Step.{refusal}
+use Rattle.records.specs.Reading.{readingOf}
+use Rattle.ways.specs.Closure.{loops}
+use Rattle.plans.specs.Diagram.{path}
+use Rattle.plans.specs.Words.{wordsMax}
+use Rattle.plans.specs.Calls.{onTable, onReading, onTask, unplanned, planned, planCall}
+use Rattle.plans.specs.Drawn.{outcomeOf}
+
+-- an outcome is not a refusal and an acceptance at once
+pub not-both : {o : Outcome} {r : Refusal} → o ≡ Refused r → o ≡ Accepted → ⊥
+not-both p q = let z : _≡_ {A = ℕ} 0 1 = cc in omega arith
+
+module _ {A : Type 0} (refuse : ℕ → ℕ → A) (go : TaskTable → A) (t : TaskTable) where
+  -- 10
+  pub on-loop : loops (t .parents) (t .count) ≡ true → onTable refuse go t ≡ refuse loop 0
+  unfolding onTable
+  on-loop e = rw e
+
+  -- 11
+  pub on-long : loops (t .parents) (t .count) ≡ false → t .period < path t → onTable refuse go t ≡ refuse longPath 0
+  unfolding onTable
+  on-long e h = rw (e, lt-ltb (t .period) (path t) h)
+
+  -- neither
+  pub on-fits : loops (t .parents) (t .count) ≡ false → path t ≤ t .period → onTable refuse go t ≡ go t
+  unfolding onTable
+  on-fits e h = rw (e, le-ltb (t .period) (path t) h)
+
+  -- the same by the outcome that a diagram tells
+  pub table-refused : {r : Refusal} → outcomeOf t ≡ Refused r → onTable refuse go t ≡ refuse (r .number) (r .place)
+  unfolding onTable
+  table-refused {r} = by (loops (t .parents) (t .count)) (ltb (t .period) (path t))
+    where
+      by : (b c : Bool) → pick b (Refused (refusal loop 0)) (pick c (Refused (refusal longPath 0)) Accepted) ≡ Refused r → pick b (refuse loop 0) (pick c (refuse longPath 0) (go t)) ≡ refuse (r .number) (r .place)
+      by true c e = let same : r ≡ refusal loop 0 = cc in rw same
+      by false true e = let same : r ≡ refusal longPath 0 = cc in rw same
+      by false false e = absurd (not-both e refl)
+
+  pub table-accepted : outcomeOf t ≡ Accepted → onTable refuse go t ≡ go t
+  unfolding onTable
+  table-accepted = by (loops (t .parents) (t .count)) (ltb (t .period) (path t))
+    where
+      by : (b c : Bool) → pick b (Refused (refusal loop 0)) (pick c (Refused (refusal longPath 0)) Accepted) ≡ Accepted → pick b (refuse loop 0) (pick c (refuse longPath 0) (go t)) ≡ go t
+      by true c e = absurd (not-both refl e)
+      by false true e = absurd (not-both refl e)
+      by false false e = refl
+
+-- a record, by the outcome of its reading
+module _ {A : Type 0} (refuse : ℕ → ℕ → A) (go : TaskTable → A) (bytes : List ℕ) where
+  pub task-refused : {r : Refusal} → readingOf bytes .outcome ≡ Refused r → onTask refuse go bytes ≡ refuse (r .number) (r .place)
+  unfolding onTask onReading
+  task-refused e = rw e
+
+  pub task-read : readingOf bytes .outcome ≡ Accepted → onTask refuse go bytes ≡ onTable refuse go (readingOf bytes .table)
+  unfolding onTask onReading
+  task-read e = rw e
+
+-- the words lent to a plan
+module _ (bytes words : List ℕ) where
+  pub few : length words < wordsMax → planCall bytes words ≡ unplanned words fewWords 0
+  unfolding planCall
+  few h = rw (lt-ltb (length words) wordsMax h)
+
+  pub enough : wordsMax ≤ length words → planCall bytes words ≡ onTask (unplanned words) (planned words) bytes
+  unfolding planCall
+  enough h = rw (le-ltb (length words) wordsMax h)

@@ -1,0 +1,38 @@
+-- `plans::write_plan` meets its contract: the front is written first, and the nodes behind it leave it as it is.
+use mathlib.Core.Path.{_≡_, refl, sym, ap, _∙_}
+use Prim.Native.Nat.{ℕ, _+_, _*_, _≤_}
+use native.Mathlib.Omega.{arith}
+use borrow.Author.Needs.{needs}
+use lib.ListN.{length, drop}
+use denote.Ref.{now}
+use mathlib.Core.List.{_++_}
+use Rattle.plans.specs.Diagram.{segmentCount}
+use Rattle.plans.specs.Words.{frontWords}
+use Rattle.plans.proofs.Front.{front-back, past-front}
+use Rattle.plans.proofs.write_plan.Statement.{statement}
+use Rattle.plans.proofs.write_plan.Tie as tie
+
+write-segments-requires : tie.Need-write-segments-requires
+write-segments-requires c κs = search needs
+
+-- the words after the front is written
+front : (c : tie.After-write-segments) → (let a = c .before .before .before .args in c .write-segments .last .0 ≡ frontWords (a .table) ++ drop (3 + 3 * segmentCount (a .table)) (now (a .words)))
+front c = let e = c .write-segments .ensures .1 in rw (c .write-segments .ensures .0 .0) at e
+
+write-nodes-requires : tie.Need-write-nodes-requires
+write-nodes-requires c κs =
+    let w = c .before .before .before in
+    let s = w .before .before .before in
+    let kept = w .write-segments .kept .0 in
+    let room = s .pre .1 in
+    (s .pre .0, record { segments = w .write-segments .ensures .0 .0; over = w .write-segments .ensures .0 .1; room = omega arith; front = front-back (s .args .table) (now (s .args .words)) (front w) })
+
+same-length : tie.Need-same-length
+same-length c = search needs
+
+returns : tie.Need-returns
+returns c = let w = c .before .before .before .before .before .before in
+    (c .before .before .write-nodes .ensures .0, c .before .before .write-nodes .ensures .1 ∙ past-front (w .before .before .before .args .table) (now (w .before .before .before .args .words)) (front w))
+
+pub write-plan-spec : {M : Type 1} → statement M
+write-plan-spec = tie.close (tie.spec write-segments-requires write-nodes-requires same-length returns)

@@ -1,0 +1,22 @@
+-- What demand 3 says of every accepted plan, a field for each sentence. Offsets, deadlines and numerators are over Q.
+use mathlib.Core.Path.{_≡_}
+use Prim.Native.Nat.{ℕ, _+_, _*_, _≤_, _<_}
+use Rattle.plain.specs.At.{at}
+use Rattle.plain.specs.Sums.{sumTo}
+use Rattle.sets.specs.Member.{Member}
+use Rattle.tables.specs.declared.TaskTable.{TaskTable}
+use Rattle.segments.specs.Share.{share}
+use Rattle.plans.specs.Diagram.{start, finish, work, segmentCount, threadsIn, lengthIn}
+use Rattle.plans.specs.Shares.{over, numeratorOf, deadline, offset}
+
+-- "every accepted plan shares out exactly its period and all its work; no step is released before its parents' deadlines; none has its
+-- deadline past the period; no deadline is under half its step's running time; no segment is denser than twice work over period"
+pub record Kept (t : TaskTable) : Type 0 where
+  pub over-some : 0 < over t
+  pub whole-period : sumTo (segmentCount t) (numeratorOf t) ≡ t .period * over t
+  pub all-work : sumTo (segmentCount t) (λ j. threadsIn t j * lengthIn t j) ≡ work t
+  pub each-work : (v : ℕ) → v < t .count → share (t .count) (start t) (finish t) (lengthIn t) v ≡ at (t .execution) v
+  pub after-parents : (v p : ℕ) → v < t .count → Member p (at (t .parents) v) → offset t p + deadline t p ≤ offset t v
+  pub within-period : (v : ℕ) → v < t .count → offset t v + deadline t v ≤ t .period * over t
+  pub at-least-half : (v : ℕ) → v < t .count → at (t .execution) v * over t ≤ 2 * deadline t v
+  pub thin : (j : ℕ) → j < segmentCount t → threadsIn t j * lengthIn t j * over t * t .period ≤ 2 * work t * numeratorOf t j

@@ -1,0 +1,7 @@
+pub mod Diagram
+pub mod Shares
+pub mod Words
+pub mod Calls
+pub mod Accepted
+pub mod Kept
+pub mod Drawn
