@@ -52,7 +52,7 @@ module _ (t : TaskTable) {w₀ w₁ w₂ : List ℕ} (cut : CutWords (t .count) 
       ∙ rw (p, e, c, behind) (simp append-assoc)
 
 -- how long the front is
-length-front : (t : TaskTable) → length (frontWords t) ≡ 3 + 3 * segmentCount t
+pub length-front : (t : TaskTable) → length (frontWords t) ≡ 3 + 3 * segmentCount t
 unfolding frontWords
 length-front t = length-append (over t ∷ segmentCount t ∷ t .count ∷ []) (triples (threadsIn t) (lengthIn t) (numeratorOf t) (segmentCount t)) ∙ ap (λ (k : ℕ). 3 + k) (length-triples (threadsIn t) (lengthIn t) (numeratorOf t) (segmentCount t))
 

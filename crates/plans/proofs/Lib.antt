@@ -5,4 +5,5 @@ pub mod Tests
 pub mod Front
 pub mod Drawing
 pub mod Nodes
+pub mod Read
 mod Worked

@@ -15,6 +15,9 @@ ghost use Rattle.plans.specs.Words.{wordCount, wordsMax, frontWords, wri
 ghost use Rattle.plans.specs.Calls.{onTable, unplanned, planned, planCall};
 ghost use Rattle.plans.specs.Drawn.{outcomeOf, answerOf, Drawn, Fronted};
 
+// The limit of specs/: the most words that a plan has.
+pub const WORDS_MAX: usize = 387;
+
 // A table's timing diagram, or the refusal that stands in its way.
 pub struct Diagram {
     pub outcome: Outcome,
@@ -151,7 +154,7 @@ fn plan_table(words: &mut [u64], table: TaskTable) -> Answer
 pub fn plan(bytes: &[u8], words: &mut [u64]) -> Answer
     ensures { λ r. ⌜ (r ≡ planCall (now (bytes .entry)) (now (words .entry)) .answer) × (now (words .exit) ≡ planCall (now (bytes .entry)) (now (words .entry)) .words) ⌝ }
 {
-    if words.len() < 387 {
+    if words.len() < WORDS_MAX {
         return Answer::refused(Refusal::FEW_WORDS, 0);
     }
     let reading = records::read_record(bytes);

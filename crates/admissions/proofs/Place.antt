@@ -1,0 +1,45 @@
+-- Whether and where a row is placed depends on its id alone: no test of `placed` looks at another figure.
+use mathlib.Core.Path.{_≡_, refl}
+use mathlib.Core.Bool.{Bool, true, false}
+use mathlib.Core.List.{List}
+use Prim.Native.Nat.{ℕ}
+use lib.Dec.{ltb}
+use borrow.Author.Tests.{eqb-false}
+use Rattle.plain.specs.Pick.{pick}
+use Rattle.refusals.specs.Numbers.{idStands, boardFull}
+use Rattle.refusals.specs.Answer.{accepted, refused}
+use Rattle.boards.specs.declared.Row.{Row}
+use Rattle.boards.specs.declared.Change.{Change}
+use Rattle.boards.specs.Row.{rowsMax}
+use Rattle.boards.specs.Find.{placeOf, freeAt}
+use Rattle.boards.specs.Change.{unchanged, placed}
+
+-- an id without figures, which is enough to find a place with
+abbrev pub idOnly : ℕ → Row
+idOnly id = record { id = id; nodes = 0; sum = 0; largest = 0 }
+
+module _ (rows : List Row) (row : Row) where
+  -- what the two tests of `placed` pick for a row
+  abbrev picked : Bool → Bool → Row → Change
+  picked stands free r =
+      pick stands (unchanged rows (refused idStands 0)) (pick free (record { at = freeAt rows; row = r; answer = accepted (freeAt rows) }) (unchanged rows (refused boardFull 0)))
+
+  -- a row is refused as its id is
+  pub refused-alike : (placed rows (idOnly (row .id)) .answer .refusal ≡ 0 → ⊥) → placed rows row ≡ placed rows (idOnly (row .id))
+  unfolding placed
+  refused-alike = by (ltb (placeOf (row .id) rows) rowsMax) (ltb (freeAt rows) rowsMax)
+    where
+      by : (b c : Bool) → (picked b c (idOnly (row .id)) .answer .refusal ≡ 0 → ⊥) → picked b c row ≡ picked b c (idOnly (row .id))
+      by true c n = refl
+      by false true n = absurd (n refl)
+      by false false n = refl
+
+  -- or goes where its id goes, with the same answer
+  pub accepted-alike : placed rows (idOnly (row .id)) .answer .refusal ≡ 0 → placed rows row ≡ record { at = placed rows (idOnly (row .id)) .at; row = row; answer = placed rows (idOnly (row .id)) .answer }
+  unfolding placed
+  accepted-alike = by (ltb (placeOf (row .id) rows) rowsMax) (ltb (freeAt rows) rowsMax)
+    where
+      by : (b c : Bool) → picked b c (idOnly (row .id)) .answer .refusal ≡ 0 → picked b c row ≡ record { at = picked b c (idOnly (row .id)) .at; row = row; answer = picked b c (idOnly (row .id)) .answer }
+      by true c e = absurd (eqb-false idStands 0 refl e)
+      by false true e = refl
+      by false false e = absurd (eqb-false boardFull 0 refl e)

@@ -1,0 +1,119 @@
+-- `admissions::admission` meets its contract: 16 first, then 17, then the reading's refusal, then the table that was read, which is in range.
+use mathlib.Core.Path.{_≡_, sym, ap, _∙_}
+use borrow.Author.Needs.{needs}
+use denote.Ref.{now}
+use Rattle.tables.specs.Range.{InRange}
+use Rattle.records.specs.declared.Outcome.the-variants.{Accepted}
+use Rattle.records.specs.declared.Reading.{Reading}
+use Rattle.records.specs.Reading.{readingOf}
+use Rattle.records.proofs.Answers.{accepted-table}
+use Rattle.plans.specs.Calls.{onTask}
+use Rattle.plans.specs.Drawn.{answerOf}
+use Rattle.plans.proofs.Tests.{task-refused, task-read}
+use Rattle.boards.proofs.Tests.{passed, failed}
+use Rattle.admissions.specs.Admission.{notAdmitted, entered, admission}
+use Rattle.admissions.proofs.Tests.{few, unsound, sound, leaves}
+use Rattle.admissions.proofs.admission.Statement.{statement}
+use Rattle.admissions.proofs.admission.Tie as tie
+
+refused-requires : tie.Need-refused-requires
+refused-requires c κs = search needs
+
+not-admitted-requires : tie.Need-not-admitted-requires
+not-admitted-requires c κs = search needs
+
+returns : tie.Need-returns
+returns c =
+    let a = c .before .before .before .before .before .args in
+    leaves (a .board .rows) (few (now (a .bytes)) (now (a .words)) (a .board .rows) (c .before .before .if1 .taken)) (c .not-admitted .ensures) (c .before .refused .ensures)
+
+is-sound-requires : tie.Need-is-sound-requires
+is-sound-requires c κs = search needs
+
+refused-requires-2 : tie.Need-refused-requires-2
+refused-requires-2 c κs = search needs
+
+not-admitted-requires-2 : tie.Need-not-admitted-requires-2
+not-admitted-requires-2 c κs = search needs
+
+returns-2 : tie.Need-returns-2
+returns-2 c =
+    let i = c .before .before .before in
+    let a = i .before .before .before .before .args in
+    leaves (a .board .rows) (unsound (now (a .bytes)) (now (a .words)) (a .board .rows) (i .before .if1 .left) (failed (i .is-sound .ensures) (c .before .before .if2 .taken)))
+    (c .not-admitted2 .ensures) (c .before .refused2 .ensures)
+
+read-record-requires : tie.Need-read-record-requires
+read-record-requires c κs = search needs
+
+-- enough words and a sound board
+going : (c : tie.After-read-record) → (let a = c .before .before .before .before .before .before .args in admission (now (a .bytes)) (now (a .words)) (a .board .rows) ≡ onTask (notAdmitted (a .board .rows) (now (a .words))) (entered (a .board .rows) (now (a .words))) (now (a .bytes)))
+going c =
+    let i = c .before .before in
+    let a = i .before .before .before .before .args in
+    sound (now (a .bytes)) (now (a .words)) (a .board .rows) (i .before .if1 .left) (passed (i .is-sound .ensures) (c .before .if2 .left))
+
+enum-told : tie.Need-enum-told
+enum-told c = search needs
+
+enum-told-2 : tie.Need-enum-told-2
+enum-told-2 c = search needs
+
+answer-of-requires : tie.Need-answer-of-requires
+answer-of-requires c κs = search needs
+
+not-admitted-requires-3 : tie.Need-not-admitted-requires-3
+not-admitted-requires-3 c κs = search needs
+
+returns-3 : tie.Need-returns-3
+returns-3 c =
+    let o = c .before in
+    let d = o .before .before .before in
+    let a = d .before .before .before .before .before .before .args in
+    let told = o .before .enum-told2 .given .1 in
+    let read = ap (λ (r : Reading). r .outcome) (sym (d .read-record .ensures)) ∙ told in
+    let e = going d ∙ task-refused (notAdmitted (a .board .rows) (now (a .words))) (entered (a .board .rows) (now (a .words))) (now (a .bytes)) read in
+    leaves (a .board .rows) e (c .not-admitted3 .ensures) (o .answer-of .ensures ∙ ap answerOf told)
+
+-- a table that was read
+read : (c : tie.After-enum-told) → readingOf (now (c .before .before .before .before .before .before .before .before .args .bytes)) .outcome ≡ Accepted
+read c = ap (λ (r : Reading). r .outcome) (sym (c .before .before .read-record .ensures)) ∙ c .enum-told .given .1
+
+range : (c : tie.After-enum-told) → InRange (c .before .before .read-record .result .table)
+range c = rw (c .before .before .read-record .ensures) (accepted-table (now (c .before .before .before .before .before .before .before .before .args .bytes)) (read c))
+
+admit-table-requires : tie.Need-admit-table-requires
+admit-table-requires c κs = (range (c .before), c .before .before .before .before .before .before .if1 .left)
+
+same-length : tie.Need-same-length
+same-length c = search needs
+
+returns-4 : tie.Need-returns-4
+returns-4 c =
+    let p = c .before .before in
+    let t = p .before .before in
+    let d = t .before .before in
+    let a = d .before .before .before .before .before .before .args in
+    let e = going d ∙ task-read (notAdmitted (a .board .rows) (now (a .words))) (entered (a .board .rows) (now (a .words))) (now (a .bytes)) (read t) in
+    rw (e, ← (d .read-record .ensures)) (p .admit-table .ensures)
+
+pub admission-spec : {M : Type 1} → statement M
+admission-spec =
+    tie.close
+    (tie.spec
+    refused-requires
+    not-admitted-requires
+    returns
+    is-sound-requires
+    refused-requires-2
+    not-admitted-requires-2
+    returns-2
+    read-record-requires
+    enum-told
+    enum-told-2
+    answer-of-requires
+    not-admitted-requires-3
+    returns-3
+    admit-table-requires
+    same-length
+    returns-4)

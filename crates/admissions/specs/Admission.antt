@@ -1,0 +1,48 @@
+-- Admitting a task, on a board by value: "Admitting checks 16, 17, 1 to 9, 10, 11, 12, 13."
+use mathlib.Core.List.{List}
+use Prim.Native.Nat.{ℕ}
+use lib.Dec.{eqb, ltb}
+use lib.ListN.{length}
+use Rattle.plain.specs.Pick.{pick}
+use Rattle.refusals.specs.Numbers.{fewWords, unsoundBoard}
+use Rattle.refusals.specs.declared.Answer.{Answer}
+use Rattle.refusals.specs.Answer.{refused}
+use Rattle.tables.specs.declared.TaskTable.{TaskTable}
+use Rattle.plans.specs.Shares.{density}
+use Rattle.plans.specs.Words.{wordsMax, written}
+use Rattle.plans.specs.Calls.{onTask}
+use Rattle.boards.specs.declared.Row.{Row}
+use Rattle.boards.specs.declared.Change.{Change}
+use Rattle.boards.specs.Row.{figures}
+use Rattle.boards.specs.Sound.{isSound}
+use Rattle.boards.specs.Change.{unchanged, placed}
+
+-- what admitting comes to: the change of the board, and the lent words after it
+pub record Admission : Type 0 where
+  pub change : Change
+  pub words : List ℕ
+
+-- a task's row: "id, node count, density sum and largest density"
+abbrev pub rowOf : TaskTable → Row
+rowOf t = figures (t .id) (t .count) (density t)
+
+-- "A refusal returns its number and place ..; plan words and board rows stay untouched"
+abbrev pub notAdmitted : List Row → List ℕ → ℕ → ℕ → Admission
+notAdmitted rows words number place = record { change = unchanged rows (refused number place); words = words }
+
+-- 12, 13; else "admitting writes the same plan words and returns the number (0..15) of the row it filled"
+unfoldable pub entered : List Row → List ℕ → TaskTable → Admission
+entered rows words t =
+    let c : Change = placed rows (rowOf t) in
+    record { change = c; words = pick (eqb (c .answer .refusal) 0) (written t words) words }
+
+-- 16, 17, then 1 to 9, 10, 11 by `onTask`, then 12, 13 by `entered`
+unfoldable pub admission : List ℕ → List ℕ → List Row → Admission
+admission bytes words rows =
+    pick (ltb (length words) wordsMax) (notAdmitted rows words fewWords 0)
+    (pick (isSound rows) (onTask (notAdmitted rows words) (entered rows words) bytes)
+    (notAdmitted rows words unsoundBoard 0))
+
+-- 16, 17 where the lent slice isn't one of 16 rows, so many words being lent
+abbrev pub noBoard : ℕ → Answer
+noBoard words = pick (ltb words wordsMax) (refused fewWords 0) (refused unsoundBoard 0)

@@ -1,0 +1,109 @@
+// Admitting a task, on a board by value: what changes on the board, and the plan's words.
+use boards::Board;
+use boards::Change;
+use boards::Row;
+use plans::Diagram;
+use plans::WORDS_MAX;
+use records::Outcome;
+use refusals::Answer;
+use refusals::Refusal;
+use tables::TaskTable;
+ghost use mathlib.Core.Path.{_≡_};
+ghost use Prim.Native.Nat.{_≤_, _<_};
+ghost use lib.ListN.{length};
+ghost use Rattle.tables.specs.Range.{InRange};
+ghost use Rattle.plans.specs.Words.{wordsMax};
+ghost use Rattle.plans.specs.Calls.{onTable};
+ghost use Rattle.plans.specs.Drawn.{Drawn};
+ghost use Rattle.boards.specs.Row.{rowsMax};
+ghost use Rattle.boards.specs.Change.{unchanged};
+ghost use Rattle.admissions.specs.Admission.{notAdmitted, entered, admission, noBoard};
+
+// What admitting answers where the board doesn't have 16 rows.
+pub fn no_board(words: usize) -> Answer
+    ensures { λ r. ⌜ r ≡ noBoard words ⌝ }
+{
+    if words < WORDS_MAX {
+        return Answer::refused(Refusal::FEW_WORDS, 0);
+    }
+    Answer::refused(Refusal::UNSOUND_BOARD, 0)
+}
+
+// A refusal: every row stays as it was.
+fn not_admitted(board: Board, answer: Answer) -> Change
+    ensures { λ r. ⌜ r ≡ unchanged (board .rows) answer ⌝ }
+{
+    let first = board.rows[0];
+    Change {
+        at: 0,
+        row: first,
+        answer,
+    }
+}
+
+// A task that has a plan: its place is found before any word is written, since 12 and 13 look only at its id.
+fn enter(words: &mut [u64], table: TaskTable, diagram: Diagram, board: Board) -> Change
+    requires { ⌜ Drawn table diagram × (wordsMax ≤ length (now words)) ⌝ }
+    ensures { λ r. ⌜ (r ≡ entered (board .rows) (now (words .entry)) table .change)
+        × (r .at < rowsMax)
+        × (now (words .exit) ≡ entered (board .rows) (now (words .entry)) table .words) ⌝ }
+{
+    let id = table.id;
+    let n = table.count;
+    let found = boards::placed(
+        board,
+        Row {
+            id,
+            nodes: 0,
+            sum: 0,
+            largest: 0,
+        },
+    );
+    let answer = found.answer;
+    if answer.refusal != 0 {
+        return found;
+    }
+    let count = plans::write_plan(words, table, diagram);
+    let from = count - 3 * n;
+    let row = boards::figures_of(&words[from..], id, n);
+    Change {
+        at: found.at,
+        row,
+        answer,
+    }
+}
+
+// A task that was read: 10, 11, or its entry.
+fn admit_table(words: &mut [u64], table: TaskTable, board: Board) -> Change
+    requires { ⌜ InRange table × (wordsMax ≤ length (now words)) ⌝ }
+    ensures { λ r. ⌜ (r ≡ onTable (notAdmitted (board .rows) (now (words .entry))) (entered (board .rows) (now (words .entry))) table .change)
+        × (r .at < rowsMax)
+        × (now (words .exit) ≡ onTable (notAdmitted (board .rows) (now (words .entry))) (entered (board .rows) (now (words .entry))) table .words) ⌝ }
+{
+    let diagram = plans::diagram_of(table);
+    let outcome = diagram.outcome;
+    let Outcome::Accepted = outcome else {
+        return not_admitted(board, plans::answer_of(outcome));
+    };
+    enter(words, table, diagram, board)
+}
+
+// Admits the task of a record: 16, 17, 1 to 9, and then its table.
+pub fn admission(bytes: &[u8], words: &mut [u64], board: Board) -> Change
+    ensures { λ r. ⌜ (r ≡ admission (now (bytes .entry)) (now (words .entry)) (board .rows) .change)
+        × (r .at < rowsMax)
+        × (now (words .exit) ≡ admission (now (bytes .entry)) (now (words .entry)) (board .rows) .words) ⌝ }
+{
+    if words.len() < WORDS_MAX {
+        return not_admitted(board, Answer::refused(Refusal::FEW_WORDS, 0));
+    }
+    if !boards::is_sound(board) {
+        return not_admitted(board, Answer::refused(Refusal::UNSOUND_BOARD, 0));
+    }
+    let reading = records::read_record(bytes);
+    let outcome = reading.outcome;
+    let Outcome::Accepted = outcome else {
+        return not_admitted(board, plans::answer_of(outcome));
+    };
+    admit_table(words, reading.table, board)
+}

@@ -1,0 +1,9 @@
+pub mod Untouched
+pub mod Rules
+pub mod Written
+pub mod OneAnswer
+pub mod Kept
+pub mod Calls
+pub mod Day
+pub mod Starred
+pub mod Promises

@@ -1,0 +1,103 @@
+-- Document 01's "Tables worked by hand", those marked *, as one list under one claim. A further table is a further line.
+use mathlib.Core.Path.{_≡_}
+use mathlib.Core.List.{List, [], _∷_, _++_}
+use Prim.Native.Nat.{ℕ}
+use lib.ListN.{length, drop, replicate}
+use Rattle.refusals.specs.declared.Answer.{Answer}
+use Rattle.refusals.specs.Answer.{accepted, refused}
+use Rattle.plans.specs.Calls.{planCall}
+use Rattle.boards.specs.declared.Row.{Row}
+use Rattle.boards.specs.Row.{rowAt}
+use Rattle.claims.specs.Calls.{Call, step, boardAfter}
+use Rattle.claims.specs.Calls.Call.{admit, ask}
+
+-- what is done, and what must come out
+pub data Entry : Type 0 where
+  -- the record's plan is these words
+  plans : (bytes words : List ℕ) → Entry
+  -- planning refuses the record
+  refuses : (bytes : List ℕ) (number place : ℕ) → Entry
+  -- admitted on the empty board, the record's task has this row
+  fills : (bytes : List ℕ) (row : Row) → Entry
+  -- after these calls, asking for so many cores gets this answer
+  answers : (calls : List Call) (cores : ℕ) (answer : Answer) → Entry
+
+-- the words that are lent: as many as the largest plan has, all 0
+abbrev pub blank : List ℕ
+blank = replicate 387 0
+
+-- a record is admitted
+abbrev pub admitting : List ℕ → Call
+admitting bytes = admit bytes blank
+
+-- it comes out so: a plan's answer is the number of its words, and the words past them are as they were; a refusal writes nothing
+abbrev pub Comes : Entry → Type 0
+Comes (plans bytes words) = planCall bytes blank ≡ record { answer = accepted (length words); words = words ++ drop (length words) blank }
+Comes (refuses bytes number place) = planCall bytes blank ≡ record { answer = refused number place; words = blank }
+Comes (fills bytes row) = rowAt (boardAfter (admitting bytes ∷ [])) 0 ≡ row
+Comes (answers calls cores answer) = step (ask cores) (boardAfter calls) .answer ≡ answer
+
+-- one node of 5 in a period of 5: light
+abbrev pub oneNode : List ℕ
+oneNode = 0x01 ∷ 0x07 ∷ 0x05 ∷ 0x01 ∷ 0x05 ∷ 0x00 ∷ []
+
+-- the same with period 4
+abbrev pub shortPeriod : List ℕ
+shortPeriod = 0x01 ∷ 0x07 ∷ 0x04 ∷ 0x01 ∷ 0x05 ∷ 0x00 ∷ []
+
+-- a chain of three, executions 1, period 3
+abbrev pub chain : List ℕ
+chain = 0x01 ∷ 0x08 ∷ 0x03 ∷ 0x03 ∷ 0x01 ∷ 0x00 ∷ 0x01 ∷ 0x01 ∷ 0x00 ∷ 0x01 ∷ 0x01 ∷ 0x01 ∷ []
+
+-- one light, one heavy segment
+abbrev pub fourNodes : List ℕ
+fourNodes = 0x01 ∷ 0x09 ∷ 0x04 ∷ 0x04 ∷ 0x02 ∷ 0x00 ∷ 0x01 ∷ 0x01 ∷ 0x00 ∷ 0x01 ∷ 0x01 ∷ 0x00 ∷ 0x01 ∷ 0x01 ∷ 0x00 ∷ []
+
+-- the record of the listing
+abbrev pub listing : List ℕ
+listing = 0x01 ∷ 0x03 ∷ 0x06 ∷ 0x03 ∷ 0x03 ∷ 0x00 ∷ 0x01 ∷ 0x00 ∷ 0x01 ∷ 0x01 ∷ 0x01 ∷ []
+
+-- a node that is its own parent
+abbrev pub ownParent : List ℕ
+ownParent = 0x01 ∷ 0x05 ∷ 0x09 ∷ 0x01 ∷ 0x01 ∷ 0x01 ∷ 0x00 ∷ []
+
+-- two nodes that are each other's
+abbrev pub eachOther : List ℕ
+eachOther = 0x01 ∷ 0x06 ∷ 0x09 ∷ 0x02 ∷ 0x01 ∷ 0x01 ∷ 0x01 ∷ 0x01 ∷ 0x01 ∷ 0x00 ∷ []
+
+-- the starred tables, in document 01's order
+unfoldable pub starred : List Entry
+starred =
+    plans oneNode (5 ∷ 1 ∷ 1 ∷ 1 ∷ 5 ∷ 25 ∷ 0 ∷ 25 ∷ 1000000 ∷ [])
+    ∷ fills oneNode (record { id = 7; nodes = 1; sum = 1000000; largest = 1000000 })
+    ∷ answers (admitting oneNode ∷ []) 1 (accepted 1)
+    ∷ refuses shortPeriod 11 0
+    ∷ plans chain (3 ∷ 3 ∷ 3 ∷ 1 ∷ 1 ∷ 3 ∷ 1 ∷ 1 ∷ 3 ∷ 1 ∷ 1 ∷ 3 ∷ 0 ∷ 3 ∷ 1000000 ∷ 3 ∷ 3 ∷ 1000000 ∷ 6 ∷ 3 ∷ 1000000 ∷ [])
+    ∷ fills chain (record { id = 8; nodes = 3; sum = 3000000; largest = 1000000 })
+    ∷ answers (admitting chain ∷ []) 1 (accepted 0)
+    ∷ answers (admitting chain ∷ []) 3 (accepted 0)
+    ∷ plans fourNodes (6 ∷ 2 ∷ 4 ∷ 1 ∷ 2 ∷ 6 ∷ 3 ∷ 1 ∷ 18 ∷ 0 ∷ 6 ∷ 2000000 ∷ 6 ∷ 18 ∷ 333334 ∷ 6 ∷ 18 ∷ 333334 ∷ 6 ∷ 18 ∷ 333334 ∷ [])
+    ∷ plans listing (5 ∷ 3 ∷ 3 ∷ 2 ∷ 1 ∷ 12 ∷ 2 ∷ 1 ∷ 12 ∷ 1 ∷ 1 ∷ 6 ∷ 0 ∷ 30 ∷ 500000 ∷ 0 ∷ 12 ∷ 416667 ∷ 12 ∷ 12 ∷ 416667 ∷ [])
+    ∷ fills listing (record { id = 3; nodes = 3; sum = 1333334; largest = 500000 })
+    ∷ answers (admitting listing ∷ []) 2 (accepted 1)
+    ∷ answers (admitting listing ∷ []) 1 (accepted 0)
+    ∷ refuses ownParent 10 0
+    ∷ refuses eachOther 10 0
+    ∷ refuses [] 1 0
+    ∷ refuses (0x80 ∷ 0x00 ∷ []) 2 0
+    ∷ refuses (0x01 ∷ 0x07 ∷ 0x80 ∷ 0x80 ∷ 0x80 ∷ 0x08 ∷ []) 5 2
+    ∷ answers [] 1 (accepted 1)
+    ∷ answers [] 64 (accepted 1)
+    ∷ answers [] 0 (refused 15 0)
+    ∷ answers [] 65 (refused 15 0)
+    ∷ []
+
+-- every entry of a list comes out as it says
+infixr 40 _also_
+pub data AllCome : List Entry → Type 0 where
+  done : AllCome []
+  _also_ : {e : Entry} {es : List Entry} → Comes e → AllCome es → AllCome (e ∷ es)
+
+-- every starred table comes out as document 01 says
+abbrev pub Starred : Type 0
+Starred = AllCome starred

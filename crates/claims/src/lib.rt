@@ -1,0 +1,1 @@
+// What we promise: statements and their proofs, no code.

@@ -1,0 +1,6 @@
+pub mod Writes
+pub mod Decimals
+pub mod Sheets
+pub mod Sizes
+pub mod Printing
+mod Worked

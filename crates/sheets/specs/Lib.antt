@@ -1,0 +1,6 @@
+pub mod Text
+pub mod Decimal
+pub mod Wrote
+pub mod Lines
+pub mod Sheet
+pub mod Printed

@@ -1,0 +1,30 @@
+-- What is printed for a record: the sheet of its plan, or "on a refusal .. one line".
+use mathlib.Core.List.{List}
+use Prim.Native.Nat.{ℕ}
+use lib.Dec.{ltb}
+use lib.ListN.{length, replicate}
+use Rattle.plain.specs.Pick.{pick}
+use Rattle.tables.specs.declared.TaskTable.{TaskTable}
+use Rattle.plans.specs.Diagram.{work, path}
+use Rattle.plans.specs.Words.{wordsMax, written}
+use Rattle.plans.specs.Calls.{onTable, onTask}
+use Rattle.sheets.specs.Lines.{refusedLine}
+use Rattle.sheets.specs.Sheet.{sheetText, sheetMax}
+use Rattle.sheets.specs.Wrote.{wrote}
+
+-- the sheet of a table, planned into words that hold 0
+abbrev pub tableSheet : TaskTable → List ℕ
+tableSheet t = sheetText (t .id) (t .period) (work t) (path t) (written t (replicate wordsMax 0))
+
+-- the sheet of a record: 1 to 9 as met, 10, 11, else the plan
+abbrev pub sheetOf : List ℕ → List ℕ
+sheetOf bytes = onTask refusedLine tableSheet bytes
+
+-- what the writer leaves: how many bytes it wrote, and the lent buffer
+pub record Printed : Type 0 where
+  pub count : ℕ
+  pub out : List ℕ
+
+-- the text at the front of a buffer that has room for every sheet; nothing in a smaller one
+abbrev pub printed : List ℕ → List ℕ → Printed
+printed text out = pick (ltb (length out) sheetMax) (record { count = 0; out = out }) (record { count = length text; out = wrote 0 text out })

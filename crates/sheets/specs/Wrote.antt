@@ -1,0 +1,19 @@
+-- What a writer leaves: "bytes past them keep their content".
+use mathlib.Core.Path.{_≡_}
+use mathlib.Core.List.{List, _++_}
+use Prim.Native.Nat.{ℕ, _+_, _≤_}
+use lib.ListN.{length, take, drop}
+
+-- the buffer has room for the text from place at on
+pub record Room (at : ℕ) (text out : List ℕ) : Type 0 where
+  pub fits : at + length text ≤ length out
+
+-- the buffer after the text is written at place at
+unfoldable pub wrote : (at : ℕ) (text out : List ℕ) → List ℕ
+wrote at text out = take at out ++ text ++ drop (at + length text) out
+
+-- a writer wrote the text at place at of the buffer before, and answers the place past it
+pub record Wrote (at : ℕ) (text before after : List ℕ) (end : ℕ) : Type 0 where
+  pub room : Room at text before
+  pub ends : end ≡ at + length text
+  pub reads : after ≡ wrote at text before

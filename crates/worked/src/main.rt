@@ -1,0 +1,194 @@
+// Runs the tables of document 01 that are not proved, and the records on which a tired planner's slips would show; prints a line for each.
+use boards::Board;
+use libc::STDOUT_FILENO;
+
+// A table's name, and whether it came out as worked by hand.
+fn say(name: &[u8], right: bool) {
+    io::write_all(STDOUT_FILENO, name);
+    if right {
+        io::write_all(STDOUT_FILENO, b": as worked\n");
+    } else {
+        io::write_all(STDOUT_FILENO, b": DIFFERS\n");
+    }
+}
+
+// Whether the words begin with those expected.
+fn begins_with(words: &[u64], expected: &[u64]) -> bool {
+    let mut i = 0;
+    while i < expected.len() {
+        if words.len() <= i {
+            return false;
+        }
+        if words[i] != expected[i] {
+            return false;
+        }
+        i += 1;
+    }
+    true
+}
+
+// A record whose plan is the expected words, and no word more.
+fn planned(name: &[u8], record: &[u8], expected: &[u64]) {
+    let mut words = [0u64; plans::WORDS_MAX];
+    let answer = plans::plan(record, &mut words);
+    if answer.refusal != 0 {
+        say(name, false);
+        return;
+    }
+    if answer.value != expected.len() as u64 {
+        say(name, false);
+        return;
+    }
+    say(name, begins_with(&words, expected));
+}
+
+// A record that is refused by this number at this place.
+fn refused(name: &[u8], record: &[u8], number: u64, place: u64) {
+    let mut words = [0u64; plans::WORDS_MAX];
+    let answer = plans::plan(record, &mut words);
+    say(name, answer.refusal == number && answer.place == place);
+}
+
+// The verdict for a board that holds this record's task alone.
+fn alone(name: &[u8], record: &[u8], cores: u64, yes: u64) {
+    let mut words = [0u64; plans::WORDS_MAX];
+    let change = admissions::admission(record, &mut words, Board::empty());
+    let at = change.at;
+    if 16 <= at {
+        say(name, false);
+        return;
+    }
+    let board = boards::with_row(Board::empty(), at, change.row);
+    let answer = boards::asked(board, cores);
+    say(name, answer.refusal == 0 && answer.value == yes);
+}
+
+// A withdrawal from the empty board.
+fn not_withdrawn(name: &[u8], id: u64) {
+    let change = boards::withdrawn(Board::empty(), id);
+    say(name, change.answer.refusal == 14);
+}
+
+// The tables that are not starred, and the two numbers written out.
+fn tables() {
+    let ten = [5u64, 1, 1, 1, 5, 50, 0, 50, 500000];
+    planned(
+        b"period 10, one heavy segment",
+        b"\x01\x07\x0a\x01\x05\x00",
+        &ten,
+    );
+    let five = [5u64, 1, 1, 1, 5, 25, 0, 25, 1000000];
+    planned(b"128 is 80 01", b"\x01\x80\x01\x05\x01\x05\x00", &five);
+    let longest = [5u64, 1, 1, 1, 5, 83886075, 0, 83886075, 1];
+    planned(
+        b"16,777,215 is FF FF FF 07",
+        b"\x01\x07\xff\xff\xff\x07\x01\x05\x00",
+        &longest,
+    );
+}
+
+// The slips, each on a record where it would show.
+fn slips() {
+    let four = [
+        6u64,
+        2,
+        4,
+        1,
+        2,
+        6,
+        3,
+        1,
+        18,
+        0,
+        6,
+        2000000,
+        6,
+        18,
+        333334,
+        6,
+        18,
+        333334,
+        6,
+        18,
+        333334,
+    ];
+    planned(
+        b"m x (2T - P) equal to C is light",
+        b"\x01\x09\x04\x04\x02\x00\x01\x01\x00\x01\x01\x00\x01\x01\x00",
+        &four,
+    );
+    let child = [
+        7u64,
+        2,
+        2,
+        1,
+        4,
+        40,
+        1,
+        3,
+        30,
+        40,
+        30,
+        700000,
+        0,
+        40,
+        700000,
+    ];
+    planned(
+        b"a child listed before its parent, its offset no start",
+        b"\x01\x05\x0a\x02\x03\x01\x01\x04\x00",
+        &child,
+    );
+    let listing = [
+        5u64,
+        3,
+        3,
+        2,
+        1,
+        12,
+        2,
+        1,
+        12,
+        1,
+        1,
+        6,
+        0,
+        30,
+        500000,
+        0,
+        12,
+        416667,
+        12,
+        12,
+        416667,
+    ];
+    planned(
+        b"deadlines are fractions of time units",
+        b"\x01\x03\x06\x03\x03\x00\x01\x00\x01\x01\x01",
+        &listing,
+    );
+    not_withdrawn(b"id 0 finds no free row to withdraw", 0);
+    alone(
+        b"densities are rounded up: no on 1 core",
+        b"\x01\x06\x03\x03\x01\x00\x01\x00\x01\x00",
+        1,
+        0,
+    );
+    alone(
+        b"and yes on 2",
+        b"\x01\x06\x03\x03\x01\x00\x01\x00\x01\x00",
+        2,
+        1,
+    );
+    refused(
+        b"a parent equal to the one before it",
+        b"\x01\x05\x0a\x02\x03\x00\x04\x02\x00\x00",
+        8,
+        9,
+    );
+}
+
+fn main() {
+    tables();
+    slips();
+}

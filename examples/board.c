@@ -1,0 +1,32 @@
+/* Plans a task, admits it, asks for the verdict and withdraws it, through planner.h. */
+#include <inttypes.h>
+#include <stdio.h>
+
+#include "planner.h"
+
+static void show(const char *call, struct planner_answer a)
+{
+    if (a.refusal == 0)
+        printf("%s: %" PRIu64 "\n", call, a.value);
+    else
+        printf("%s: refused %" PRIu64 " at %" PRIu64 "\n", call, a.refusal, a.place);
+}
+
+int main(void)
+{
+    /* Document 01's listing: task 3, period 6, three nodes, node 2 waits for node 1. */
+    static const uint8_t record[] = {0x01, 0x03, 0x06, 0x03, 0x03, 0x00, 0x01, 0x00, 0x01, 0x01, 0x01};
+    static uint64_t words[PLANNER_WORDS];
+    static struct planner_row board[PLANNER_ROWS];
+
+    show("plan", planner_plan(record, sizeof record, words, PLANNER_WORDS));
+    printf("over %" PRIu64 ", %" PRIu64 " segments, %" PRIu64 " nodes\n", words[0], words[1], words[2]);
+    show("admit", planner_admit(record, sizeof record, words, PLANNER_WORDS, board, PLANNER_ROWS));
+    show("admit again", planner_admit(record, sizeof record, words, PLANNER_WORDS, board, PLANNER_ROWS));
+    show("ask 1 core", planner_ask(board, PLANNER_ROWS, 1));
+    show("ask 2 cores", planner_ask(board, PLANNER_ROWS, 2));
+    show("ask 0 cores", planner_ask(board, PLANNER_ROWS, 0));
+    show("withdraw 3", planner_withdraw(board, PLANNER_ROWS, 3));
+    show("withdraw 3 again", planner_withdraw(board, PLANNER_ROWS, 3));
+    return 0;
+}

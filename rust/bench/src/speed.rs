@@ -1,0 +1,127 @@
+//! The table of times.
+
+use crate::clock::pair;
+use crate::setup::{board, record, Aligned, SHAPES};
+use ffi::task::Task;
+use reference::{Row, PLAN_WORDS};
+use std::hint::black_box;
+
+pub fn print() {
+    let copy = copy_time();
+    println!("nanoseconds for one call, best of the batches' medians");
+    println!("words buffer: 387 words, zeroed before the first call, then reused");
+    println!("words and boards start on a cache line");
+    println!("board: copied afresh before each admit and withdraw; the {copy:.1} for");
+    println!("the copy are already taken off");
+    println!("{:34}{:>9}{:>11}{:>7}", "", "library", "reference", "ratio");
+    plans();
+    admissions(copy);
+    withdrawal(copy);
+    asking();
+}
+
+fn line(name: &str, (library, reference): (f64, f64)) {
+    let ratio = library / reference;
+    println!("{name:34}{library:9.1}{reference:11.1}{ratio:7.2}");
+}
+
+fn plans() {
+    for shape in SHAPES {
+        for count in [8, 16, 32, 64] {
+            let name = format!("plan {} of {count}", shape.0);
+            line(&name, plan_times(&record(shape, count, 1)));
+        }
+    }
+    let longest = Task::longest().record();
+    let name = format!("read {} bytes, then refusal 10", longest.len());
+    line(&name, plan_times(&longest));
+}
+
+fn plan_times(record: &[u8]) -> (f64, f64) {
+    let mut words = [Aligned([0; PLAN_WORDS]); 2];
+    let [Aligned(library), Aligned(reference)] = &mut words;
+    pair(
+        || {
+            black_box(ffi::plan(black_box(record), black_box(library)));
+        },
+        || {
+            black_box(reference::plan(black_box(record), black_box(reference)));
+        },
+    )
+}
+
+fn copy_time() -> f64 {
+    let kept = board(16);
+    let mut boards = [Aligned(kept); 2];
+    let [Aligned(one), Aligned(other)] = &mut boards;
+    let times = pair(|| refresh(one, &kept), || refresh(other, &kept));
+    times.0.min(times.1)
+}
+
+fn refresh(rows: &mut [Row; 16], kept: &[Row; 16]) {
+    *black_box(rows) = *black_box(kept);
+}
+
+fn less(time: (f64, f64), copy: f64) -> (f64, f64) {
+    (time.0 - copy, time.1 - copy)
+}
+
+fn admissions(copy: f64) {
+    for (standing, name) in [(0, "empty board"), (15, "15 standing")] {
+        for shape in SHAPES {
+            let time = admit_times(&record(shape, 16, 99), &board(standing));
+            let name = format!("admit {} of 16, {name}", shape.0);
+            line(&name, less(time, copy));
+        }
+    }
+}
+
+fn admit_times(record: &[u8], kept: &[Row; 16]) -> (f64, f64) {
+    let mut words = [Aligned([0; PLAN_WORDS]); 2];
+    let [Aligned(library), Aligned(reference)] = &mut words;
+    let mut boards = [Aligned(*kept); 2];
+    let [Aligned(one), Aligned(other)] = &mut boards;
+    pair(
+        || {
+            refresh(one, kept);
+            let answer = ffi::admit(black_box(record), black_box(library), black_box(one));
+            black_box(answer);
+        },
+        || {
+            refresh(other, kept);
+            let words = black_box(&mut *reference);
+            let answer = reference::admit(black_box(record), words, black_box(other));
+            black_box(answer);
+        },
+    )
+}
+
+fn withdrawal(copy: f64) {
+    let kept = board(16);
+    let mut boards = [Aligned(kept); 2];
+    let [Aligned(one), Aligned(other)] = &mut boards;
+    let time = pair(
+        || {
+            refresh(one, &kept);
+            black_box(ffi::withdraw(black_box(one), black_box(16)));
+        },
+        || {
+            refresh(other, &kept);
+            black_box(reference::withdraw(black_box(other), black_box(16)));
+        },
+    );
+    line("withdraw the last row, full board", less(time, copy));
+}
+
+fn asking() {
+    let rows = board(16);
+    let time = pair(
+        || {
+            black_box(ffi::ask(black_box(&rows), black_box(16)));
+        },
+        || {
+            black_box(reference::ask(black_box(&rows), black_box(16)));
+        },
+    );
+    line("ask, full board", time);
+}

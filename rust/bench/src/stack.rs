@@ -1,0 +1,152 @@
+//! Stack depth: the stack below a call is painted, and after the call it is
+//! seen how far down the paint is gone.
+
+use crate::setup::{board, record, SHAPES};
+use ffi::task::Task;
+use reference::PLAN_WORDS;
+use std::hint::black_box;
+use std::ptr;
+use std::thread;
+
+const STACK_BYTES: usize = 8 << 20;
+const PAINTED_BYTES: usize = 4 << 20;
+const PAINT: u64 = 0x5AFE_57AC_C0DE_D00D;
+const WORD: usize = size_of::<u64>();
+
+/// Painting and scanning have frames of their own; the painted part starts
+/// this much lower, and the measured call runs below twice as much.
+const GAP: usize = 4_096;
+
+pub fn print() {
+    println!();
+    println!("stack in bytes, with the small frame that makes the call; for plan and");
+    println!("admit the deepest of 64 nodes in each shape and the longest record");
+    println!("{:34}{:>9}{:>11}", "", "library", "reference");
+    let with_id = |(shape, id)| record(shape, 64, id);
+    let mut records: Vec<Vec<u8>> = SHAPES.into_iter().zip(90..).map(with_id).collect();
+    records.push(Task::longest().record());
+    plan_depths(&records);
+    admit_depths(&records);
+    board_depths();
+}
+
+fn line(name: &str, library: usize, reference: usize) {
+    println!("{name:34}{library:9}{reference:11}");
+}
+
+fn plan_depths(records: &[Vec<u8>]) {
+    let mut words = [0; PLAN_WORDS];
+    let library = deepest(records, |record| {
+        black_box(ffi::plan(record, black_box(&mut words)));
+    });
+    let reference = deepest(records, |record| {
+        black_box(reference::plan(record, black_box(&mut words)));
+    });
+    line("plan", library, reference);
+}
+
+fn admit_depths(records: &[Vec<u8>]) {
+    let mut words = [0; PLAN_WORDS];
+    let mut rows = board(10);
+    let library = deepest(records, |record| {
+        black_box(ffi::admit(
+            record,
+            black_box(&mut words),
+            black_box(&mut rows),
+        ));
+    });
+    let mut rows = board(10);
+    let reference = deepest(records, |record| {
+        black_box(reference::admit(
+            record,
+            black_box(&mut words),
+            black_box(&mut rows),
+        ));
+    });
+    line("admit", library, reference);
+}
+
+fn board_depths() {
+    let mut rows = board(16);
+    let library = depth(&mut || {
+        black_box(ffi::withdraw(black_box(&mut rows), black_box(16)));
+    });
+    let mut rows = board(16);
+    let reference = depth(&mut || {
+        black_box(reference::withdraw(black_box(&mut rows), black_box(16)));
+    });
+    line("withdraw", library, reference);
+    let rows = board(16);
+    let library = depth(&mut || {
+        black_box(ffi::ask(black_box(&rows), black_box(16)));
+    });
+    let reference = depth(&mut || {
+        black_box(reference::ask(black_box(&rows), black_box(16)));
+    });
+    line("ask", library, reference);
+}
+
+fn deepest(records: &[Vec<u8>], mut call: impl FnMut(&[u8]) + Send) -> usize {
+    let depths = records
+        .iter()
+        .map(|record| depth(&mut || call(black_box(record))));
+    depths.max().unwrap_or(0)
+}
+
+/// What the call takes beyond a call that does nothing.
+fn depth(call: &mut (dyn FnMut() + Send)) -> usize {
+    let nothing = on_a_big_stack(&mut || {
+        black_box(());
+    });
+    on_a_big_stack(call) - nothing
+}
+
+fn on_a_big_stack(call: &mut (dyn FnMut() + Send)) -> usize {
+    thread::scope(|scope| {
+        let measured = thread::Builder::new()
+            .stack_size(STACK_BYTES)
+            .spawn_scoped(scope, || painted_away(call))
+            .expect("a thread for the measurement");
+        measured.join().expect("the measured call returns")
+    })
+}
+
+/// Distance from this frame down to the lowest word that lost its paint.
+#[inline(never)]
+fn painted_away(call: &mut (dyn FnMut() + Send)) -> usize {
+    let mark = 0u64;
+    let here = black_box(ptr::from_ref(&mark)).expose_provenance();
+    let top = here - GAP;
+    paint(top);
+    below_the_gap(call);
+    let lowest = lowest_change(top);
+    assert!(lowest > top - PAINTED_BYTES, "deeper than what was painted");
+    here - lowest
+}
+
+#[inline(never)]
+fn below_the_gap(call: &mut (dyn FnMut() + Send)) {
+    let gap = [0u8; 2 * GAP];
+    black_box(&gap);
+    call();
+    black_box(&gap);
+}
+
+#[inline(never)]
+fn paint(top: usize) {
+    for address in (top - PAINTED_BYTES..top).step_by(WORD) {
+        // SAFETY: unused part of this thread's own stack, which is twice as large.
+        unsafe { ptr::with_exposed_provenance_mut::<u64>(address).write_volatile(PAINT) }
+    }
+}
+
+#[inline(never)]
+fn lowest_change(top: usize) -> usize {
+    let kept = |&address: &usize| {
+        // SAFETY: reads what `paint` has written, or a finished call has left.
+        let word = unsafe { ptr::with_exposed_provenance::<u64>(address).read_volatile() };
+        word == PAINT
+    };
+    let mut addresses = (top - PAINTED_BYTES..top).step_by(WORD);
+    addresses.find(|address| !kept(address)).unwrap_or(top)
+}

@@ -1,0 +1,156 @@
+//! One case: buffers as they are lent, and calls made on them in turn, by
+//! the library and by the reference, each on its own copy.
+
+use reference::{Answer, Row};
+
+#[derive(Clone, PartialEq)]
+pub enum Call {
+    Plan(Vec<u8>),
+    Admit(Vec<u8>),
+    Withdraw(u64),
+    Ask(u64),
+}
+
+#[derive(Clone, PartialEq)]
+pub struct Case {
+    pub words: Vec<u64>,
+    pub board: Vec<Row>,
+    pub calls: Vec<Call>,
+}
+
+/// The first call after which the two sides aren't equal.
+pub struct Difference {
+    pub call: usize,
+    pub library: Answer,
+    pub reference: Answer,
+    /// The first differing word, row or byte, if it is in a buffer.
+    pub spot: Option<String>,
+}
+
+/// The four calls of one side.
+struct Planner {
+    plan: fn(&[u8], &mut [u64]) -> Answer,
+    admit: fn(&[u8], &mut [u64], &mut [Row]) -> Answer,
+    withdraw: fn(&mut [Row], u64) -> Answer,
+    ask: fn(&[Row], u64) -> Answer,
+}
+
+const LIBRARY: Planner = Planner {
+    plan: ffi::plan,
+    admit: ffi::admit,
+    withdraw: ffi::withdraw,
+    ask: ffi::ask,
+};
+
+const REFERENCE: Planner = Planner {
+    plan: reference::plan,
+    admit: reference::admit,
+    withdraw: reference::withdraw,
+    ask: reference::ask,
+};
+
+pub fn difference(case: &Case) -> Option<Difference> {
+    let mut library = Lent::new(case);
+    let mut reference = Lent::new(case);
+    for (at, call) in case.calls.iter().enumerate() {
+        let library_answer = library.make(call, &LIBRARY);
+        let reference_answer = reference.make(call, &REFERENCE);
+        if library_answer != reference_answer || library != reference {
+            return Some(Difference {
+                call: at,
+                library: library_answer,
+                reference: reference_answer,
+                spot: library.first_difference(&reference),
+            });
+        }
+    }
+    None
+}
+
+/// One side's buffers, each inside a fence that a call must not touch.
+#[derive(PartialEq)]
+struct Lent {
+    words: Fenced<u64>,
+    board: Fenced<Row>,
+    record: Fenced<u8>,
+}
+
+impl Lent {
+    fn new(case: &Case) -> Lent {
+        let post = 0xFE9C_E000_FE9C_E000;
+        let row = Row {
+            id: post,
+            nodes: post,
+            sum: post,
+            largest: post,
+        };
+        Lent {
+            words: Fenced::new(&case.words, post),
+            board: Fenced::new(&case.board, row),
+            // Reading on past the end, one would meet good numbers.
+            record: Fenced::new(&[], 1),
+        }
+    }
+
+    fn make(&mut self, call: &Call, by: &Planner) -> Answer {
+        if let Call::Plan(record) | Call::Admit(record) = call {
+            self.record.refill(record);
+        }
+        let words = self.words.inside();
+        let board = self.board.inside();
+        match *call {
+            Call::Plan(_) => (by.plan)(self.record.inside(), words),
+            Call::Admit(_) => (by.admit)(self.record.inside(), words, board),
+            Call::Withdraw(id) => (by.withdraw)(board, id),
+            Call::Ask(cores) => (by.ask)(board, cores),
+        }
+    }
+
+    fn first_difference(&self, reference: &Lent) -> Option<String> {
+        let word = self.words.first_difference(&reference.words, "word");
+        let row = || self.board.first_difference(&reference.board, "row");
+        let byte = || self.record.first_difference(&reference.record, "byte");
+        word.or_else(row).or_else(byte)
+    }
+}
+
+#[derive(PartialEq)]
+struct Fenced<T> {
+    items: Vec<T>,
+    post: T,
+}
+
+impl<T: Copy + PartialEq + std::fmt::Debug> Fenced<T> {
+    const POSTS: usize = 8;
+
+    fn new(content: &[T], post: T) -> Fenced<T> {
+        let items = Vec::with_capacity(content.len() + 2 * Self::POSTS);
+        let mut fenced = Fenced { items, post };
+        fenced.refill(content);
+        fenced
+    }
+
+    fn refill(&mut self, content: &[T]) {
+        let fence = [self.post; 8];
+        self.items.clear();
+        self.items.extend_from_slice(&fence);
+        self.items.extend_from_slice(content);
+        self.items.extend_from_slice(&fence);
+    }
+
+    fn inside(&mut self) -> &mut [T] {
+        let end = self.items.len() - Self::POSTS;
+        &mut self.items[Self::POSTS..end]
+    }
+
+    /// A negative number, or one past the end, is a post of the fence.
+    fn first_difference(&self, reference: &Fenced<T>, name: &str) -> Option<String> {
+        let mut pairs = self.items.iter().zip(&reference.items);
+        let at = pairs.position(|(one, other)| one != other)?;
+        let number = at as isize - Self::POSTS as isize;
+        let (library, reference) = (self.items[at], reference.items[at]);
+        Some(format!(
+            "first differing {name} {number}: library {library:?}, reference {reference:?}"
+        ))
+    }
+}

@@ -1,0 +1,275 @@
+//! The cases, by family: first those that go through all of something, then
+//! as many by chance as asked for.
+
+use crate::boards::{free_board, random_board, tight_board, SPOILS};
+use crate::case::{difference, Call, Case};
+use crate::chance::{any_board, any_call, any_record, board_calls, old_words};
+use crate::random::Random;
+use crate::records::{
+    bad_forms, encoded, random_bytes, samples, short_lists, spoilt, with_form, WORKED,
+};
+use crate::tasks::{random_task, task_of};
+use ffi::task::Task;
+use reference::{Row, PLAN_WORDS};
+use std::io::{self, Write};
+
+/// The case that differed and the family it came from.
+pub struct Found {
+    pub family: &'static str,
+    pub case: Case,
+}
+
+pub struct Run {
+    random: Random,
+    family: &'static str,
+    wanted: u64,
+    pub compared: u64,
+}
+
+type Outcome = Result<(), Found>;
+
+impl Run {
+    /// A run that goes on by chance until so many cases are compared.
+    pub fn of(wanted: u64, seed: u64) -> Run {
+        Run {
+            random: Random::seeded(seed),
+            family: "",
+            wanted,
+            compared: 0,
+        }
+    }
+
+    pub fn all(&mut self) -> Outcome {
+        self.family("worked tables", Run::worked_tables)?;
+        self.family("cuts", Run::cuts)?;
+        self.family("bit flips", Run::bit_flips)?;
+        self.family("forms", Run::forms)?;
+        self.family("limits", Run::limits)?;
+        self.family("parent counts", Run::parent_counts)?;
+        self.family("word buffers", Run::word_buffers)?;
+        self.family("board lengths", Run::board_lengths)?;
+        self.family("board rows", Run::board_rows)?;
+        self.family("verdicts", Run::verdicts)?;
+        self.family("sequences", Run::sequences)?;
+        self.family("by chance", Run::by_chance)
+    }
+
+    fn family(&mut self, name: &'static str, cases: fn(&mut Run) -> Outcome) -> Outcome {
+        self.family = name;
+        let before = self.compared;
+        // Named beforehand, in case the library doesn't come back.
+        print!("  {name}:");
+        let _ = io::stdout().flush();
+        cases(self)?;
+        println!(" {}", self.compared - before);
+        Ok(())
+    }
+
+    fn compare(&mut self, case: Case) -> Outcome {
+        self.compared += case.calls.len() as u64;
+        match difference(&case) {
+            None => Ok(()),
+            Some(_) => Err(Found {
+                family: self.family,
+                case,
+            }),
+        }
+    }
+
+    fn on_board(&mut self, board: Vec<Row>, calls: Vec<Call>) -> Outcome {
+        let length = PLAN_WORDS + self.random.index(3);
+        let words = old_words(&mut self.random, length);
+        self.compare(Case {
+            words,
+            board,
+            calls,
+        })
+    }
+
+    fn plan(&mut self, record: Vec<u8>) -> Outcome {
+        self.on_board(vec![], vec![Call::Plan(record)])
+    }
+
+    fn worked_tables(&mut self) -> Outcome {
+        for record in WORKED {
+            let mut calls = vec![Call::Plan(record.to_vec()), Call::Admit(record.to_vec())];
+            calls.extend((0..=66).map(Call::Ask));
+            calls.extend([0, 3, 7, 9, 65_535, 65_536].map(Call::Withdraw));
+            self.on_board(free_board(), calls)?;
+        }
+        Ok(())
+    }
+
+    fn cuts(&mut self) -> Outcome {
+        for record in samples(&mut self.random) {
+            for length in 0..=record.len() {
+                let cut = record[..length].to_vec();
+                let calls = vec![Call::Plan(cut.clone()), Call::Admit(cut)];
+                self.on_board(free_board(), calls)?;
+            }
+        }
+        Ok(())
+    }
+
+    fn bit_flips(&mut self) -> Outcome {
+        for record in samples(&mut self.random) {
+            for bit in 0..8 * record.len() {
+                let mut flipped = record.clone();
+                flipped[bit / 8] ^= 1 << (bit % 8);
+                self.plan(flipped)?;
+            }
+        }
+        Ok(())
+    }
+
+    fn forms(&mut self) -> Outcome {
+        for numbers in short_lists(&mut self.random) {
+            for at in 0..numbers.len() {
+                for form in bad_forms(numbers[at]) {
+                    let record = with_form(&numbers, at, &form);
+                    let end = encoded(&numbers[..at]).len() + form.len();
+                    self.plan(record[..end].to_vec())?;
+                    self.plan(record)?;
+                }
+            }
+        }
+        Ok(())
+    }
+
+    /// Each field takes values around every limit there is, its own and the
+    /// other fields'.
+    fn limits(&mut self) -> Outcome {
+        let limits = [0, 1, 64, 65_535, 16_777_215];
+        let group_limits = [1 << 7, 1 << 14, 1 << 21, 1 << 28];
+        for numbers in short_lists(&mut self.random) {
+            for at in 0..numbers.len() {
+                let fields = [numbers[at], numbers[at.max(1) - 1], numbers[Task::COUNT_AT]];
+                for limit in limits.iter().chain(&group_limits).chain(&fields) {
+                    for value in limit.saturating_sub(1)..=limit + 1 {
+                        let mut changed = numbers.clone();
+                        changed[at] = value;
+                        self.plan(encoded(&changed))?;
+                    }
+                }
+            }
+            for bytes in [vec![0], vec![0x80], vec![0xFF; 5], vec![0; 9_000]] {
+                self.plan([encoded(&numbers), bytes].concat())?;
+            }
+        }
+        Ok(())
+    }
+
+    /// One node of n takes none to all n as parents, and one more than that.
+    fn parent_counts(&mut self) -> Outcome {
+        for count in 1..=64 {
+            for written in [0, 1, count - 1, count, count + 1] {
+                let mut task = task_of(&mut self.random, count);
+                let node = self.random.index(count as usize);
+                task.nodes[node].parents = (0..written).collect();
+                self.plan(task.record())?;
+                task.nodes[node].parents.reverse();
+                self.plan(task.record())?;
+            }
+        }
+        Ok(())
+    }
+
+    fn word_buffers(&mut self) -> Outcome {
+        for length in [0, 1, 3, 200, 385, 386, 387, 388, 389, 500, 2_000] {
+            for _ in 0..60 {
+                let record = any_record(&mut self.random);
+                let board = any_board(&mut self.random);
+                let words = old_words(&mut self.random, length);
+                let calls = vec![Call::Plan(record.clone()), Call::Admit(record)];
+                self.compare(Case {
+                    words,
+                    board,
+                    calls,
+                })?;
+            }
+        }
+        Ok(())
+    }
+
+    fn board_lengths(&mut self) -> Outcome {
+        for length in (0..=20).chain([32, 64, 300]) {
+            for _ in 0..20 {
+                let mut board = random_board(&mut self.random);
+                board.resize(length, Row::default());
+                let calls = board_calls(&mut self.random);
+                self.on_board(board, calls)?;
+            }
+        }
+        Ok(())
+    }
+
+    fn board_rows(&mut self) -> Outcome {
+        for spoil in SPOILS {
+            for at in 0..16 {
+                for _ in 0..8 {
+                    let mut board = random_board(&mut self.random);
+                    spoil(&mut board[at]);
+                    let calls = board_calls(&mut self.random);
+                    self.on_board(board, calls)?;
+                }
+            }
+        }
+        Ok(())
+    }
+
+    fn verdicts(&mut self) -> Outcome {
+        for cores in 1..=64 {
+            for _ in 0..30 {
+                let board = tight_board(&mut self.random, cores);
+                let calls = [cores - 1, cores, cores + 1].map(Call::Ask);
+                self.on_board(board, calls.into())?;
+            }
+        }
+        Ok(())
+    }
+
+    fn sequences(&mut self) -> Outcome {
+        for _ in 0..50 {
+            self.sequence(1_000)?;
+        }
+        Ok(())
+    }
+
+    fn sequence(&mut self, length: usize) -> Outcome {
+        let board = random_board(&mut self.random);
+        let calls = (0..length).map(|_| any_call(&mut self.random)).collect();
+        self.on_board(board, calls)
+    }
+
+    fn by_chance(&mut self) -> Outcome {
+        while self.compared < self.wanted {
+            self.one_by_chance()?;
+        }
+        Ok(())
+    }
+
+    fn one_by_chance(&mut self) -> Outcome {
+        let random = &mut self.random;
+        match random.below(64) {
+            0 => self.sequence(100),
+            1..=8 => {
+                let board = any_board(random);
+                let calls = board_calls(random);
+                self.on_board(board, calls)
+            }
+            9..=16 => {
+                let bytes = random_bytes(random);
+                self.plan(bytes)
+            }
+            17..=24 => {
+                let record = random_task(random).record();
+                let record = spoilt(random, record);
+                self.plan(record)
+            }
+            _ => {
+                let record = random_task(random).record();
+                self.plan(record)
+            }
+        }
+    }
+}

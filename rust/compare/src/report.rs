@@ -1,0 +1,63 @@
+//! Printing a difference.
+
+use crate::case::{difference, Call, Case};
+use reference::{Answer, Row};
+
+pub fn print(case: &Case) {
+    println!("words: {}{}", case.words.len(), words(&case.words));
+    println!("board: {} rows{}", case.board.len(), rows(&case.board));
+    let Some(found) = difference(case) else {
+        println!("the difference does not come again");
+        return;
+    };
+    for (at, call) in case.calls.iter().enumerate().take(found.call + 1) {
+        println!("call {at}: {}", text(call));
+    }
+    println!("  library:   {}", answer(&found.library));
+    println!("  reference: {}", answer(&found.reference));
+    if let Some(spot) = found.spot {
+        println!("  {spot}");
+    }
+}
+
+fn answer(answer: &Answer) -> String {
+    let Answer {
+        refusal,
+        place,
+        value,
+    } = answer;
+    format!("refusal {refusal} place {place} value {value}")
+}
+
+fn text(call: &Call) -> String {
+    match call {
+        Call::Plan(record) => format!("plan, {} bytes:{}", record.len(), hex(record)),
+        Call::Admit(record) => format!("admit, {} bytes:{}", record.len(), hex(record)),
+        Call::Withdraw(id) => format!("withdraw {id}"),
+        Call::Ask(cores) => format!("ask {cores}"),
+    }
+}
+
+fn hex(record: &[u8]) -> String {
+    record.iter().map(|byte| format!(" {byte:02X}")).collect()
+}
+
+fn words(words: &[u64]) -> String {
+    let set = words.iter().enumerate().filter(|(_, &word)| word != 0);
+    let listed = set.map(|(at, word)| format!("\n  word {at}: {word:X}"));
+    or_all("0", listed.collect())
+}
+
+fn rows(board: &[Row]) -> String {
+    let standing = board.iter().enumerate();
+    let standing = standing.filter(|(_, row)| **row != Row::default());
+    let listed = standing.map(|(at, row)| format!("\n  row {at}: {row:?}"));
+    or_all("free", listed.collect())
+}
+
+fn or_all(otherwise: &str, listed: String) -> String {
+    match listed.is_empty() {
+        true => format!(", all {otherwise}"),
+        false => format!(", all {otherwise} but{listed}"),
+    }
+}

@@ -1,0 +1,172 @@
+//! Makes a differing case as small as greedy steps can, each of which has to
+//! leave a difference.
+
+use crate::case::{difference, Call, Case};
+use crate::draft::Draft;
+use reference::Row;
+
+pub fn shrink(mut case: Case) -> Case {
+    loop {
+        let before = case.clone();
+        drop_calls(&mut case);
+        for at in 0..case.calls.len() {
+            shrink_call(&mut case, at);
+        }
+        shrink_board(&mut case);
+        shrink_words(&mut case);
+        if case == before {
+            return case;
+        }
+    }
+}
+
+/// Takes the change over if there is still a difference with it.
+fn keeps(case: &mut Case, change: impl FnOnce(&mut Case)) -> bool {
+    let mut changed = case.clone();
+    change(&mut changed);
+    let kept = difference(&changed).is_some();
+    if kept {
+        *case = changed;
+    }
+    kept
+}
+
+/// Drops parts of a list of that length, large parts first; `drop_part` is
+/// given first and length and says whether the part could go.
+fn drop_parts(mut length: usize, mut drop_part: impl FnMut(usize, usize) -> bool) {
+    let mut part = length;
+    while part > 0 {
+        let mut first = 0;
+        while first + part <= length {
+            if drop_part(first, part) {
+                length -= part;
+            } else {
+                first += part;
+            }
+        }
+        part /= 2;
+    }
+}
+
+/// Lowers a number in steps that get smaller; `set` says whether it could be.
+fn lower(mut value: u64, mut set: impl FnMut(u64) -> bool) {
+    let mut step = value;
+    while step > 0 {
+        while step <= value && set(value - step) {
+            value -= step;
+        }
+        step /= 2;
+    }
+}
+
+fn drop_calls(case: &mut Case) {
+    drop_parts(case.calls.len(), |first, length| {
+        keeps(case, |case| drop(case.calls.drain(first..first + length)))
+    });
+}
+
+fn shrink_call(case: &mut Case, at: usize) {
+    match case.calls[at].clone() {
+        Call::Withdraw(id) => lower(id, |id| {
+            keeps(case, |case| case.calls[at] = Call::Withdraw(id))
+        }),
+        Call::Ask(cores) => lower(cores, |cores| {
+            keeps(case, |case| case.calls[at] = Call::Ask(cores))
+        }),
+        Call::Plan(_) | Call::Admit(_) => {
+            shrink_task(case, at);
+            shrink_bytes(case, at);
+        }
+    }
+}
+
+fn record(case: &mut Case, at: usize) -> &mut Vec<u8> {
+    match &mut case.calls[at] {
+        Call::Plan(record) | Call::Admit(record) => record,
+        Call::Withdraw(_) | Call::Ask(_) => unreachable!("this call has no record"),
+    }
+}
+
+fn shrink_bytes(case: &mut Case, at: usize) {
+    drop_parts(record(case, at).len(), |first, length| {
+        keeps(case, |case| {
+            record(case, at).drain(first..first + length);
+        })
+    });
+    for byte in 0..record(case, at).len() {
+        lower(u64::from(record(case, at)[byte]), |value| {
+            keeps(case, |case| record(case, at)[byte] = value as u8)
+        });
+    }
+}
+
+/// A record gets smaller as a task first: nodes, edges, then numbers.
+fn shrink_task(case: &mut Case, at: usize) {
+    let Some(mut draft) = Draft::read(record(case, at)) else {
+        return;
+    };
+    let mut change = |draft: &mut Draft, change: &dyn Fn(&mut Draft)| {
+        let mut changed = draft.clone();
+        change(&mut changed);
+        let kept = keeps(case, |case| *record(case, at) = changed.record());
+        if kept {
+            *draft = changed;
+        }
+        kept
+    };
+    drop_parts(draft.task.nodes.len(), |first, length| {
+        change(&mut draft, &|draft| draft.drop_nodes(first, length))
+    });
+    for node in 0..draft.task.nodes.len() {
+        drop_parts(draft.task.nodes[node].parents.len(), |first, length| {
+            change(&mut draft, &|draft| {
+                draft.task.nodes[node].parents.drain(first..first + length);
+            })
+        });
+        lower(draft.task.nodes[node].execution, |value| {
+            change(&mut draft, &|draft| {
+                draft.task.nodes[node].execution = value
+            })
+        });
+    }
+    lower(draft.task.period, |value| {
+        change(&mut draft, &|draft| draft.task.period = value)
+    });
+    lower(draft.task.id, |value| {
+        change(&mut draft, &|draft| draft.task.id = value)
+    });
+}
+
+fn shrink_board(case: &mut Case) {
+    drop_parts(case.board.len(), |first, length| {
+        keeps(case, |case| drop(case.board.drain(first..first + length)))
+    });
+    let fields: [fn(&mut Row) -> &mut u64; 4] = [
+        |row| &mut row.id,
+        |row| &mut row.nodes,
+        |row| &mut row.sum,
+        |row| &mut row.largest,
+    ];
+    for at in 0..case.board.len() {
+        if case.board[at] == Row::default() || keeps(case, |case| case.board[at] = Row::default()) {
+            continue;
+        }
+        for field in fields {
+            lower(*field(&mut case.board[at]), |value| {
+                keeps(case, |case| *field(&mut case.board[at]) = value)
+            });
+        }
+    }
+}
+
+fn shrink_words(case: &mut Case) {
+    drop_parts(case.words.len(), |first, length| {
+        keeps(case, |case| drop(case.words.drain(first..first + length)))
+    });
+    if keeps(case, |case| case.words.fill(0)) {
+        return;
+    }
+    for at in 0..case.words.len() {
+        keeps(case, |case| case.words[at] = 0);
+    }
+}

@@ -1,0 +1,163 @@
+//! Random tasks, and periods that sit on the edge of a rule.
+
+use crate::random::Random;
+use ffi::task::{chain, dense, fork, Node, Task};
+use reference::PLAN_WORDS;
+
+const LARGEST_PERIOD: u64 = 16_777_215;
+
+/// Any task: shape, numbering, executions and period all by chance.
+pub fn random_task(random: &mut Random) -> Task {
+    let most = random.pick(&[4, 16, 64]);
+    let count = if random.one_in(16) {
+        64
+    } else {
+        random.between(1, most)
+    };
+    task_of(random, count)
+}
+
+pub fn task_of(random: &mut Random, count: u64) -> Task {
+    let mut parents = graph(random, count);
+    if random.one_in(8) {
+        close_a_loop(random, &mut parents);
+    }
+    let parents = renumbered(random, parents);
+    let executions = executions(random, count);
+    let node = |(execution, parents)| Node { execution, parents };
+    let mut task = Task {
+        id: random.between(1, 65_535),
+        period: LARGEST_PERIOD,
+        nodes: executions.into_iter().zip(parents).map(node).collect(),
+    };
+    task.period = period(random, &mut task);
+    task
+}
+
+/// A graph whose edges all go up.
+fn graph(random: &mut Random, count: u64) -> Vec<Vec<u64>> {
+    match random.below(6) {
+        0 => chain(count),
+        1 => fork(count),
+        2 => dense(count),
+        3 => layers(random, count),
+        4 => vec![vec![]; count as usize],
+        _ => scattered(random, count),
+    }
+}
+
+/// Layers of one width; each node has some of the layer before as parents.
+fn layers(random: &mut Random, count: u64) -> Vec<Vec<u64>> {
+    let width = random.between(1, count);
+    let in_four = random.between(1, 4);
+    let mut parents = |node: u64| {
+        let layer = node / width * width;
+        let before = layer.saturating_sub(width)..layer;
+        before.filter(|_| random.below(4) < in_four).collect()
+    };
+    (0..count).map(&mut parents).collect()
+}
+
+fn scattered(random: &mut Random, count: u64) -> Vec<Vec<u64>> {
+    let one_in = random.pick(&[2, 4, 10, 30]);
+    let mut parents = |node| (0..node).filter(|_| random.one_in(one_in)).collect();
+    (0..count).map(&mut parents).collect()
+}
+
+/// One edge that goes down or to the node itself; mostly it closes a loop.
+fn close_a_loop(random: &mut Random, parents: &mut [Vec<u64>]) {
+    let child = random.index(parents.len());
+    let parent = random.between(child as u64, parents.len() as u64 - 1);
+    parents[child].push(parent);
+}
+
+/// The same graph with its nodes listed in order, backwards or shuffled.
+fn renumbered(random: &mut Random, parents: Vec<Vec<u64>>) -> Vec<Vec<u64>> {
+    let mut numbers: Vec<u64> = (0..parents.len() as u64).collect();
+    match random.below(4) {
+        0 => (),
+        1 => numbers.reverse(),
+        _ => random.shuffle(&mut numbers),
+    }
+    let mut listed = vec![Vec::new(); parents.len()];
+    for (node, parents) in parents.into_iter().enumerate() {
+        let mut renamed: Vec<u64> = parents.iter().map(|&p| numbers[p as usize]).collect();
+        renamed.sort_unstable();
+        renamed.dedup();
+        listed[numbers[node] as usize] = renamed;
+    }
+    listed
+}
+
+fn executions(random: &mut Random, count: u64) -> Vec<u64> {
+    let most = random.pick(&[1, 2, 5, 100, 1_000, 65_535]);
+    let all_most = random.one_in(4);
+    let mut execution = |_| {
+        if all_most {
+            most
+        } else {
+            random.between(1, most)
+        }
+    };
+    (0..count).map(&mut execution).collect()
+}
+
+/// Work, path, and the threads that occur.
+struct Profile {
+    work: u64,
+    path: u64,
+    threads: Vec<u64>,
+}
+
+/// From the plan at the longest period, where only a loop is refused.
+fn profile(task: &Task) -> Option<Profile> {
+    let mut roomy = task.clone();
+    roomy.period = LARGEST_PERIOD;
+    let mut words = [0; PLAN_WORDS];
+    if reference::plan(&roomy.record(), &mut words).refusal != 0 {
+        return None;
+    }
+    let segments = words[3..].chunks(3).take(words[1] as usize);
+    Some(Profile {
+        work: task.nodes.iter().map(|node| node.execution).sum(),
+        path: segments.clone().map(|segment| segment[1]).sum(),
+        threads: segments.map(|segment| segment[0]).collect(),
+    })
+}
+
+/// A period for the task; where it has to, the search changes executions.
+fn period(random: &mut Random, task: &mut Task) -> u64 {
+    let Some(Profile { work, path, .. }) = profile(task) else {
+        return random.between(1, 1_000);
+    };
+    match random.below(8) {
+        0 => path,
+        1 => (path - 1).max(1),
+        2 => path + 1,
+        3 => random.between(path, path + work),
+        4 => random.between(path, 2 * path),
+        5 => random.pick(&[1, LARGEST_PERIOD, LARGEST_PERIOD - 1]),
+        _ => tie(random, task).map_or(path, |at| random.between(at.max(2) - 1, at + 1)),
+    }
+}
+
+/// A period with m x (2T - P) = C for the threads m of some segment.
+fn tie(random: &mut Random, task: &mut Task) -> Option<u64> {
+    for _ in 0..20 {
+        let Profile {
+            work,
+            path,
+            threads,
+        } = profile(task)?;
+        let ties = |&&m: &&u64| {
+            work.is_multiple_of(m) && work / m >= path && (work / m + path).is_multiple_of(2)
+        };
+        let found: Vec<u64> = threads.iter().filter(ties).copied().collect();
+        if !found.is_empty() {
+            return Some((work / random.pick(&found) + path) / 2);
+        }
+        let node = random.index(task.nodes.len());
+        task.nodes[node].execution = random.between(1, 9);
+    }
+    None
+}

@@ -1,0 +1,43 @@
+//! The proved library's C interface as four ordinary calls, so that it can
+//! stand wherever the reference can; and the tasks both programs feed to it.
+
+pub mod task;
+
+use reference::{Answer, Row};
+
+extern "C" {
+    fn planner_plan(record: *const u8, bytes: usize, words: *mut u64, lent: usize) -> Answer;
+    fn planner_admit(
+        record: *const u8,
+        bytes: usize,
+        words: *mut u64,
+        lent: usize,
+        board: *mut Row,
+        rows: usize,
+    ) -> Answer;
+    fn planner_withdraw(board: *mut Row, rows: usize, id: u64) -> Answer;
+    fn planner_ask(board: *const Row, rows: usize, cores: u64) -> Answer;
+}
+
+pub fn plan(record: &[u8], words: &mut [u64]) -> Answer {
+    let (bytes, lent) = (record.len(), words.len());
+    // SAFETY: each pointer goes with its own slice's length.
+    unsafe { planner_plan(record.as_ptr(), bytes, words.as_mut_ptr(), lent) }
+}
+
+pub fn admit(record: &[u8], words: &mut [u64], board: &mut [Row]) -> Answer {
+    let (bytes, lent, rows) = (record.len(), words.len(), board.len());
+    let (record, words, board) = (record.as_ptr(), words.as_mut_ptr(), board.as_mut_ptr());
+    // SAFETY: each pointer goes with its own slice's length; no two overlap.
+    unsafe { planner_admit(record, bytes, words, lent, board, rows) }
+}
+
+pub fn withdraw(board: &mut [Row], id: u64) -> Answer {
+    // SAFETY: pointer and length are one slice's.
+    unsafe { planner_withdraw(board.as_mut_ptr(), board.len(), id) }
+}
+
+pub fn ask(board: &[Row], cores: u64) -> Answer {
+    // SAFETY: pointer and length are one slice's, which is only read.
+    unsafe { planner_ask(board.as_ptr(), board.len(), cores) }
+}

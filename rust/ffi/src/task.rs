@@ -1,0 +1,80 @@
+//! Tasks, their records, and some shapes of graph.
+
+/// A node's execution and its parents, ascending.
+#[derive(Clone, Debug, PartialEq)]
+pub struct Node {
+    pub execution: u64,
+    pub parents: Vec<u64>,
+}
+
+#[derive(Clone, Debug, PartialEq)]
+pub struct Task {
+    pub id: u64,
+    pub period: u64,
+    pub nodes: Vec<Node>,
+}
+
+impl Task {
+    /// Where the node count stands among the numbers.
+    pub const COUNT_AT: usize = 3;
+
+    /// The record's numbers in their order.
+    pub fn numbers(&self) -> Vec<u64> {
+        let mut numbers = vec![1, self.id, self.period, self.nodes.len() as u64];
+        for node in &self.nodes {
+            numbers.extend([node.execution, node.parents.len() as u64]);
+            numbers.extend(&node.parents);
+        }
+        numbers
+    }
+
+    pub fn record(&self) -> Vec<u8> {
+        self.numbers().into_iter().flat_map(number).collect()
+    }
+
+    /// The longest record that is read to its end; its nodes form loops.
+    pub fn longest() -> Task {
+        let node = Node {
+            execution: 65_535,
+            parents: (0..64).collect(),
+        };
+        Task {
+            id: 65_535,
+            period: 16_777_215,
+            nodes: vec![node; 64],
+        }
+    }
+}
+
+/// A number's shortest form, whatever its size.
+pub fn number(mut value: u64) -> Vec<u8> {
+    let mut bytes = Vec::new();
+    while value >= 0x80 {
+        bytes.push(value as u8 | 0x80);
+        value >>= 7;
+    }
+    bytes.push(value as u8);
+    bytes
+}
+
+/// Each node has the one before it as its parent.
+pub fn chain(count: u64) -> Vec<Vec<u64>> {
+    (0..count)
+        .map(|node| (node.max(1) - 1..node).collect())
+        .collect()
+}
+
+/// One root, its children, and a last node that joins them.
+pub fn fork(count: u64) -> Vec<Vec<u64>> {
+    let parents = |node| match node {
+        0 => vec![],
+        _ if node == count - 1 && count > 2 => (1..node).collect(),
+        _ => vec![0],
+    };
+    (0..count).map(parents).collect()
+}
+
+/// Each node has all before it as its parents.
+pub fn dense(count: u64) -> Vec<Vec<u64>> {
+    (0..count).map(|node| (0..node).collect()).collect()
+}

@@ -1,0 +1,104 @@
+//! Document 01 in plain Rust: the four public calls and the printed sheet.
+//!
+//! Written from the document alone, so that an answer of the proved library
+//! can be held against a second opinion. A refusal leaves everything lent as
+//! it was.
+
+#![forbid(unsafe_code)]
+
+mod board;
+mod plan;
+mod record;
+mod refusal;
+mod sheet;
+mod timing;
+
+pub use board::Row;
+pub use plan::PLAN_WORDS;
+pub use sheet::sheet;
+
+use board::{find, free_row, sound, verdict, ROWS};
+use plan::{lent_words, write_plan};
+use record::Table;
+use refusal::Refusal;
+use timing::Timing;
+
+/// What every call returns. With refusal 0, `value` is the words written, the
+/// row filled or freed, or 1 for yes and 0 for no; otherwise it is 0.
+#[repr(C)]
+#[derive(Clone, Copy, Debug, Default, PartialEq, Eq)]
+pub struct Answer {
+    pub refusal: u64,
+    pub place: u64,
+    pub value: u64,
+}
+
+impl From<Result<u64, Refusal>> for Answer {
+    fn from(result: Result<u64, Refusal>) -> Answer {
+        match result {
+            Ok(value) => Answer {
+                value,
+                ..Answer::default()
+            },
+            Err(refusal) => Answer {
+                refusal: refusal.number(),
+                place: refusal.place(),
+                value: 0,
+            },
+        }
+    }
+}
+
+/// Plans the record's task into the lent words; the value is their number.
+pub fn plan(record: &[u8], words: &mut [u64]) -> Answer {
+    planned(record, words).into()
+}
+
+/// Plans the record's task and puts it on the board; the value is its row.
+pub fn admit(record: &[u8], words: &mut [u64], board: &mut [Row]) -> Answer {
+    admitted(record, words, board).into()
+}
+
+/// Takes a standing task off the board; the value is the row it leaves.
+pub fn withdraw(board: &mut [Row], id: u64) -> Answer {
+    withdrawn(board, id).into()
+}
+
+/// Whether the standing tasks pass the density test on that many cores.
+pub fn ask(board: &[Row], cores: u64) -> Answer {
+    sound(board)
+        .and_then(|rows| verdict(rows, cores))
+        .map(u64::from)
+        .into()
+}
+
+fn planned(record: &[u8], words: &mut [u64]) -> Result<u64, Refusal> {
+    let words = lent_words(words)?;
+    let table = Table::read(record)?;
+    let timing = Timing::of(&table)?;
+    Ok(write_plan(&table, &timing, words).words)
+}
+
+/// Row and id are settled before the first word is written, since 12 and 13
+/// must leave the plan untouched too.
+fn admitted(record: &[u8], words: &mut [u64], board: &mut [Row]) -> Result<u64, Refusal> {
+    let words = lent_words(words)?;
+    let rows: &[Row; ROWS] = sound(board)?;
+    let table = Table::read(record)?;
+    let timing = Timing::of(&table)?;
+    let row = free_row(rows, table.id)?;
+    let written = write_plan(&table, &timing, words);
+    board[row] = Row {
+        id: table.id,
+        nodes: table.count as u64,
+        sum: written.sum,
+        largest: written.largest,
+    };
+    Ok(row as u64)
+}
+
+fn withdrawn(board: &mut [Row], id: u64) -> Result<u64, Refusal> {
+    let row = find(sound(board)?, id)?;
+    board[row] = Row::default();
+    Ok(row as u64)
+}

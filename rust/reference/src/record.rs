@@ -1,0 +1,113 @@
+//! Reading a task record, from the left, into a table.
+
+use crate::refusal::{Refusal, Rule};
+
+/// A task as its record gives it. Entries past the node count are 0.
+pub struct Table {
+    pub id: u64,
+    pub period: u64,
+    pub count: usize,
+    pub executions: [u64; Table::LARGEST_COUNT],
+    /// Node v's parents, node p as bit p.
+    pub parents: [u64; Table::LARGEST_COUNT],
+}
+
+impl Table {
+    pub const LARGEST_ID: u64 = 65_535;
+    pub const LARGEST_PERIOD: u64 = 16_777_215;
+    pub const LARGEST_COUNT: usize = 64;
+    pub const LARGEST_EXECUTION: u64 = 65_535;
+
+    /// Refusals 1 to 9, in the order they are met.
+    pub fn read(record: &[u8]) -> Result<Table, Refusal> {
+        let mut reader = Reader { record, at: 0 };
+        reader.within(1, 1, Rule::Edition)?;
+        let id = reader.within(1, Table::LARGEST_ID, Rule::Id)?;
+        let period = reader.within(1, Table::LARGEST_PERIOD, Rule::Period)?;
+        let count = reader.within(1, Table::LARGEST_COUNT as u64, Rule::NodeCount)?;
+        let mut table = Table {
+            id,
+            period,
+            count: count as usize,
+            executions: [0; Table::LARGEST_COUNT],
+            parents: [0; Table::LARGEST_COUNT],
+        };
+        for node in 0..table.count {
+            table.executions[node] = reader.within(1, Table::LARGEST_EXECUTION, Rule::Execution)?;
+            table.parents[node] = reader.parents(count)?;
+        }
+        reader.end()?;
+        Ok(table)
+    }
+}
+
+/// The record and the place of the next byte in it.
+struct Reader<'a> {
+    record: &'a [u8],
+    at: usize,
+}
+
+impl Reader<'_> {
+    /// A parent count and that many ascending parents, as a set.
+    fn parents(&mut self, count: u64) -> Result<u64, Refusal> {
+        let written = self.within(0, count, Rule::Parents)?;
+        let mut set = 0;
+        let mut least = 0;
+        for _ in 0..written {
+            let parent = self.within(least, count - 1, Rule::Parents)?;
+            set |= 1 << parent;
+            least = parent + 1;
+        }
+        Ok(set)
+    }
+
+    /// A number that has to lie in low..=high; it is read whole before that.
+    #[inline]
+    fn within(&mut self, low: u64, high: u64, rule: Rule) -> Result<u64, Refusal> {
+        let place = self.at;
+        let value = self.number()?;
+        if low <= value && value <= high {
+            Ok(value)
+        } else {
+            Err(Refusal::at(rule, place))
+        }
+    }
+
+    /// Most numbers are one byte, so that case goes first.
+    #[inline]
+    fn number(&mut self) -> Result<u64, Refusal> {
+        match self.record.get(self.at) {
+            Some(&byte) if byte < 0x80 => {
+                self.at += 1;
+                Ok(u64::from(byte))
+            }
+            _ => self.long_number(),
+        }
+    }
+
+    fn long_number(&mut self) -> Result<u64, Refusal> {
+        let mut value = 0;
+        for group in 0..4 {
+            let Some(&byte) = self.record.get(self.at + group) else {
+                return Err(Refusal::at(Rule::InputEnds, self.record.len()));
+            };
+            value |= u64::from(byte & 0x7f) << (7 * group);
+            // A last byte of 0 after others would be a longer form than needed.
+            if byte == 0 && group > 0 {
+                break;
+            }
+            if byte < 0x80 {
+                self.at += group + 1;
+                return Ok(value);
+            }
+        }
+        Err(Refusal::at(Rule::Form, self.at))
+    }
+
+    fn end(&self) -> Result<(), Refusal> {
+        if self.at < self.record.len() {
+            return Err(Refusal::at(Rule::BytesFollow, self.at));
+        }
+        Ok(())
+    }
+}

@@ -1,0 +1,49 @@
+//! The text the printing program gives for a record.
+
+use std::fmt::Write;
+
+use crate::plan::{write_plan, Written, HEAD, PLAN_WORDS};
+use crate::record::Table;
+use crate::refusal::Refusal;
+use crate::timing::Timing;
+
+/// The program looks at no more of its input than this.
+const INPUT_LIMIT: usize = 8_192;
+
+/// What `plansheet` prints with this on its standard input.
+pub fn sheet(input: &[u8]) -> Vec<u8> {
+    let record = &input[..input.len().min(INPUT_LIMIT)];
+    let text = match lines(record) {
+        Ok(text) => text,
+        Err(refusal) => format!("refused {} at {}\n", refusal.number(), refusal.place()),
+    };
+    text.into_bytes()
+}
+
+fn lines(record: &[u8]) -> Result<String, Refusal> {
+    let table = Table::read(record)?;
+    let timing = Timing::of(&table)?;
+    let mut words = [0; PLAN_WORDS];
+    let written = write_plan(&table, &timing, &mut words);
+    let mut text = format!(
+        "task {} period {} work {} path {} over {}\n",
+        table.id, table.period, timing.work, timing.path, words[0]
+    );
+    let nodes_at = HEAD + 3 * timing.segments().len();
+    let names = ["seg", "threads", "length", "deadline"];
+    triples(&mut text, names, &words[HEAD..nodes_at]);
+    let names = ["node", "offset", "deadline", "density"];
+    triples(&mut text, names, &words[nodes_at..written.words as usize]);
+    let Written { sum, largest, .. } = written;
+    text.push_str(&format!("sum {sum} max {largest}\n"));
+    Ok(text)
+}
+
+/// One line for each triple, numbered from 0.
+fn triples(text: &mut String, [kind, first, second, third]: [&str; 4], words: &[u64]) {
+    for (number, triple) in words.chunks_exact(3).enumerate() {
+        let [a, b, c] = [triple[0], triple[1], triple[2]];
+        // Writing to a String cannot fail.
+        let _ = writeln!(text, "{kind} {number} {first} {a} {second} {b} {third} {c}");
+    }
+}

@@ -1,0 +1,222 @@
+//! The planner against the document's definitions taken literally: reaching
+//! by closure, cuts from every start and finish, offsets by walking parents.
+
+use reference::{plan, PLAN_WORDS};
+use std::collections::BTreeSet;
+
+struct Task {
+    period: u64,
+    executions: Vec<u64>,
+    parents: Vec<Vec<usize>>,
+}
+
+/// A small generator; the same numbers on every run.
+struct Random(u64);
+
+impl Random {
+    fn below(&mut self, limit: u64) -> u64 {
+        self.0 ^= self.0 << 13;
+        self.0 ^= self.0 >> 7;
+        self.0 ^= self.0 << 17;
+        (self.0 >> 16) % limit
+    }
+}
+
+fn number(bytes: &mut Vec<u8>, mut value: u64) {
+    while value >= 128 {
+        bytes.push(value as u8 | 0x80);
+        value >>= 7;
+    }
+    bytes.push(value as u8);
+}
+
+impl Task {
+    /// Any graph of the given density of edges, nodes in shuffled order; one
+    /// in four may have edges that close a loop.
+    fn random(random: &mut Random) -> Task {
+        let count = 1 + random.below(12) as usize;
+        let mut rank: Vec<usize> = (0..count).collect();
+        for at in 1..count {
+            rank.swap(at, random.below(at as u64 + 1) as usize);
+        }
+        let any_way = random.below(4) == 0;
+        let in_ten = 1 + random.below(10);
+        let largest = [1, 3, 50, 65_535][random.below(4) as usize];
+        let mut parents = vec![Vec::new(); count];
+        for child in 0..count {
+            for parent in 0..count {
+                let may = any_way || rank[parent] < rank[child];
+                if may && random.below(10) < in_ten {
+                    parents[child].push(parent);
+                }
+            }
+        }
+        let executions: Vec<u64> = (0..count).map(|_| 1 + random.below(largest)).collect();
+        let work: u64 = executions.iter().sum();
+        let period = 1 + random.below(3 * work);
+        Task {
+            period,
+            executions,
+            parents,
+        }
+    }
+
+    fn record(&self) -> Vec<u8> {
+        let mut bytes = vec![1, 7];
+        number(&mut bytes, self.period);
+        number(&mut bytes, self.executions.len() as u64);
+        for (execution, parents) in self.executions.iter().zip(&self.parents) {
+            number(&mut bytes, *execution);
+            number(&mut bytes, parents.len() as u64);
+            for &parent in parents {
+                number(&mut bytes, parent as u64);
+            }
+        }
+        bytes
+    }
+
+    fn has_loop(&self) -> bool {
+        let count = self.executions.len();
+        let mut reach = vec![vec![false; count]; count];
+        for (child, parents) in self.parents.iter().enumerate() {
+            parents
+                .iter()
+                .for_each(|&parent| reach[child][parent] = true);
+        }
+        for middle in 0..count {
+            for from in 0..count {
+                for to in 0..count {
+                    reach[from][to] |= reach[from][middle] && reach[middle][to];
+                }
+            }
+        }
+        (0..count).any(|node| reach[node][node])
+    }
+
+    /// The greatest over the parents of that value, 0 without any.
+    fn latest(&self, node: usize, value: &dyn Fn(usize) -> u64) -> u64 {
+        let parents = &self.parents[node];
+        parents
+            .iter()
+            .map(|&parent| value(parent))
+            .max()
+            .unwrap_or(0)
+    }
+
+    fn finish(&self, node: usize) -> u64 {
+        self.latest(node, &|parent| self.finish(parent)) + self.executions[node]
+    }
+
+    fn offset(&self, node: usize, deadlines: &[u64]) -> u64 {
+        let end = |parent: usize| self.offset(parent, deadlines) + deadlines[parent];
+        self.latest(node, &end)
+    }
+}
+
+struct Segment {
+    length: u64,
+    running: Vec<usize>,
+}
+
+impl Segment {
+    fn threads(&self) -> u64 {
+        self.running.len() as u64
+    }
+
+    fn work(&self) -> u64 {
+        self.threads() * self.length
+    }
+}
+
+fn segments(task: &Task) -> Vec<Segment> {
+    let count = task.executions.len();
+    let finishes: Vec<u64> = (0..count).map(|node| task.finish(node)).collect();
+    let start = |node: usize| finishes[node] - task.executions[node];
+    let starts = (0..count).map(start);
+    let cuts: BTreeSet<u64> = finishes.iter().copied().chain(starts).collect();
+    let cuts: Vec<u64> = cuts.into_iter().collect();
+    let between = |cut: &[u64]| {
+        let through = |&node: &usize| start(node) <= cut[0] && cut[1] <= finishes[node];
+        Segment {
+            length: cut[1] - cut[0],
+            running: (0..count).filter(through).collect(),
+        }
+    };
+    cuts.windows(2).map(between).collect()
+}
+
+fn total<'a>(segments: impl IntoIterator<Item = &'a Segment>) -> u64 {
+    segments.into_iter().map(|segment| segment.length).sum()
+}
+
+/// Q and the segments' deadline numerators.
+fn deadlines(task: &Task, segments: &[Segment]) -> (u64, Vec<u64>) {
+    let period = task.period;
+    let work: u64 = task.executions.iter().sum();
+    let path = total(segments);
+    let is_heavy = |segment: &Segment| segment.threads() * (2 * period - path) > work;
+    let l = total(segments.iter().filter(|segment| !is_heavy(segment)));
+    let heavy = segments.iter().filter(|segment| is_heavy(segment));
+    let h: u64 = heavy.map(Segment::work).sum();
+    if segments.iter().all(is_heavy) {
+        let numerator = |segment: &Segment| period * segment.work();
+        return (work, segments.iter().map(numerator).collect());
+    }
+    if !segments.iter().any(is_heavy) {
+        let numerator = |segment: &Segment| period * segment.length;
+        return (path, segments.iter().map(numerator).collect());
+    }
+    let numerator = |segment: &Segment| match is_heavy(segment) {
+        true => (2 * period - l) * segment.work(),
+        false => segment.length * h,
+    };
+    (2 * h, segments.iter().map(numerator).collect())
+}
+
+/// The plan's words, or the refusal's number.
+fn literal(task: &Task) -> Result<Vec<u64>, u64> {
+    if task.has_loop() {
+        return Err(10);
+    }
+    let segments = segments(task);
+    if total(&segments) > task.period {
+        return Err(11);
+    }
+    let (over, numerators) = deadlines(task, &segments);
+    let count = task.executions.len();
+    let mut words = vec![over, segments.len() as u64, count as u64];
+    let mut node_deadlines = vec![0; count];
+    for (segment, numerator) in segments.iter().zip(&numerators) {
+        words.extend([segment.threads(), segment.length, *numerator]);
+        for &node in &segment.running {
+            node_deadlines[node] += numerator;
+        }
+    }
+    for (node, &deadline) in node_deadlines.iter().enumerate() {
+        let above = u128::from(task.executions[node]) * u128::from(over) * 1_000_000;
+        let below = u128::from(deadline);
+        let density = above / below + u128::from(above % below != 0);
+        words.extend([task.offset(node, &node_deadlines), deadline, density as u64]);
+    }
+    Ok(words)
+}
+
+#[test]
+fn random_tasks() {
+    let mut random = Random(0x2545_F491_4F6C_DD1D);
+    let mut planned = 0;
+    for _ in 0..20_000 {
+        let task = Task::random(&mut random);
+        let mut words = [0; PLAN_WORDS];
+        let answer = plan(&task.record(), &mut words);
+        match literal(&task) {
+            Ok(expected) => {
+                planned += 1;
+                assert_eq!(answer.refusal, 0);
+                assert_eq!(words[..answer.value as usize], expected);
+            }
+            Err(refusal) => assert_eq!(answer.refusal, refusal),
+        }
+    }
+    assert!(planned > 5_000, "only {planned} tasks were planned");
+}
