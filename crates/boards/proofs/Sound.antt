@@ -10,16 +10,16 @@ use native.Mathlib.Omega.{arith}
 use lib.Dec.{eqb}
 use lib.ListN.{length, replicate}
 use borrow.Author.Tests.{eqb-true, eqb-false, eq-eqb, ne-eqb, le-leb}
+use Rattle.plain.specs.Pick.{pick}
 use Rattle.plain.specs.Sums.{sumTo, maxTo}
 use Rattle.plain.proofs.Sums.{sumTo-le, maxTo-le}
 use Rattle.tables.specs.Limits.{idMax, countMax, densityMax, million}
 use Rattle.boards.specs.declared.Row.{Row}
 use Rattle.boards.specs.Row.{freeRow, rowsMax, rowAt}
-use Rattle.boards.specs.Sound.{Standing, Sound, between, isFree, isStanding, isSoundRow, isNew, isSound, allTo}
+use Rattle.boards.specs.Sound.{Standing, Sound, between, isFree, isStanding, isSoundRow, isNewAmong, isNew, isSound, allTo}
 use Rattle.boards.specs.Find.{placeOf}
 use Rattle.boards.specs.Verdict.{sumOf, largestOf, verdict}
-use Rattle.boards.proofs.Find.{place-before, place-is}
-use Rattle.boards.proofs.Tests.{true-false, not-held, pick-case, both-true, true-both, between-true, true-between, allTo-true, true-allTo}
+use Rattle.boards.proofs.Tests.{true-false, not-held, pick-case, both-true, true-both, between-true, true-between, allTo-true, true-allTo, allTo-same}
 
 -- a free row
 pub free-test : (r : Row) → isFree r ≡ true → r ≡ freeRow
@@ -90,16 +90,10 @@ test-new rows k f =
     pick-case (λ t. t ≡ true) (eqb (rowAt rows k .id) 0) (λ z. refl)
     (λ z. true-allTo k _ (λ i h. rw (ne-eqb (rowAt rows i .id) (rowAt rows k .id) (λ q. eqb-false (rowAt rows k .id) 0 z (sym q ∙ f i h q)))))
 
--- row k is the first with its id just where the id's place is k
-pub new-place : (rows : List Row) (k : ℕ) → k < length rows → (rowAt rows k .id ≡ 0 → ⊥) → isNew rows k ≡ eqb (placeOf (rowAt rows k .id) rows) k
-new-place rows k h n = go (eqb (placeOf (rowAt rows k .id) rows) k) refl
-  where
-    lowest : New rows k → placeOf (rowAt rows k .id) rows ≡ k
-    lowest f = place-is (rowAt rows k .id) rows k h refl (λ i l q. n (sym q ∙ f i l q))
-
-    go : (b : Bool) → eqb (placeOf (rowAt rows k .id) rows) k ≡ b → isNew rows k ≡ b
-    go true e = test-new rows k (λ i l q. absurd (place-before (rowAt rows k .id) rows i (rw (eqb-true (placeOf (rowAt rows k .id) rows) k e) l) q))
-    go false e = not-held (isNew rows k) (λ t. eqb-false (placeOf (rowAt rows k .id) rows) k e (lowest (new-test rows k t)))
+-- ids that are the rows' tell the same
+pub new-among : (rows : List Row) (ids : ℕ → ℕ) (k : ℕ) → k < rowsMax → ((i : ℕ) → i < rowsMax → ids i ≡ rowAt rows i .id) → isNewAmong ids k ≡ isNew rows k
+unfolding isNew
+new-among rows ids k h e = rw (e k h, allTo-same k (λ i. pick (eqb (ids i) (rowAt rows k .id)) false true) (λ i. pick (eqb (rowAt rows i .id) (rowAt rows k .id)) false true) (λ i l. rw (e i (omega arith))))
 
 -- the whole test
 pub sound-test : (rows : List Row) → isSound rows ≡ true → Sound rows

@@ -59,6 +59,11 @@ pub allTo-none : (f : ℕ → Bool) → allTo 0 f ≡ true
 unfolding allTo
 allTo-none f = refl
 
+pub allTo-same : (n : ℕ) (f g : ℕ → Bool) → ((k : ℕ) → k < n → f k ≡ g k) → allTo n f ≡ allTo n g
+unfolding allTo
+allTo-same zero f g e = refl
+allTo-same (suc n) f g e = rw (allTo-same n f g (λ k h. e k (omega arith)), e n (omega arith))
+
 pub allTo-more : (n : ℕ) (f : ℕ → Bool) → allTo (n + 1) f ≡ both (allTo n f) (f n)
 unfolding allTo
 allTo-more n f = rw add-one

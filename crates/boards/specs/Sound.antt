@@ -55,9 +55,13 @@ unfoldable pub allTo : ℕ → (ℕ → Bool) → Bool
 allTo zero f = true
 allTo (suc n) f = both (allTo n f) (f n)
 
--- row k has no id that an earlier row has; id 0 doesn't count
+-- entry k is no earlier entry's; 0 doesn't count
+abbrev pub isNewAmong : (ℕ → ℕ) → ℕ → Bool
+isNewAmong ids k = pick (eqb (ids k) 0) true (allTo k (λ i. pick (eqb (ids i) (ids k)) false true))
+
+-- "no id twice": row k has no id that an earlier row has
 unfoldable pub isNew : List Row → ℕ → Bool
-isNew rows k = pick (eqb (rowAt rows k .id) 0) true (allTo k (λ i. pick (eqb (rowAt rows i .id) (rowAt rows k .id)) false true))
+isNew rows k = isNewAmong (λ i. rowAt rows i .id) k
 
 -- the whole test
 unfoldable pub isSound : List Row → Bool

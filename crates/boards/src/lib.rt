@@ -8,8 +8,8 @@ ghost use lib.ListN.{length, replicate, set};
 ghost use Rattle.plain.specs.At.{at};
 ghost use Rattle.refusals.specs.Answer.{refused};
 ghost use Rattle.tables.specs.Limits.{countMax, densityMax};
-ghost use Rattle.boards.specs.Row.{freeRow, rowsMax, figures};
-ghost use Rattle.boards.specs.Sound.{isFree, between, isStanding, isSoundRow, isNew, isSound, Sound};
+ghost use Rattle.boards.specs.Row.{freeRow, rowsMax, rowAt, figures};
+ghost use Rattle.boards.specs.Sound.{isFree, between, isStanding, isSoundRow, isNewAmong, isSound, Sound};
 ghost use Rattle.boards.specs.Find.{placeOf};
 ghost use Rattle.boards.specs.Verdict.{sumOf, largestOf, verdict, coresMax};
 ghost use Rattle.boards.specs.Change.{unchanged, placed, withdrawn, asked};
@@ -139,29 +139,51 @@ fn is_sound_row(row: Row) -> bool
     is_standing(row)
 }
 
-// Whether no earlier row has row k's id, so that k is the lowest place of it; id 0 doesn't count.
-fn is_new(board: Board, k: usize) -> bool
-    requires { ⌜ k < rowsMax ⌝ }
-    ensures { λ r. ⌜ r ≡ isNew (board .rows) k ⌝ }
+// The rows' ids, read once: the test of each row against the others is then no walk over whole rows.
+fn ids_of(board: Board) -> [u64; 16]
+    ensures { λ r. ⌜ ((k : ℕ) → k < rowsMax → at r k ≡ rowAt (board .rows) k .id) ⌝ }
 {
-    let row = board.rows[k];
-    if row.id == 0 {
+    let mut ids = [0u64; ROWS];
+    let mut k: usize = 0;
+    while k < ROWS {
+        let row = board.rows[k];
+        ids[k] = row.id;
+        k += 1;
+    }
+    ids
+}
+
+// Whether no earlier entry is entry k's id; id 0 doesn't count.
+fn is_new(ids: &[u64; 16], k: usize) -> bool
+    requires { ⌜ k < rowsMax ⌝ }
+    ensures { λ r. ⌜ r ≡ isNewAmong (at (now (ids .entry))) k ⌝ }
+{
+    let own = ids[k];
+    if own == 0 {
         return true;
     }
-    place_of(board, row.id) == k
+    let mut i: usize = 0;
+    while i < k {
+        if ids[i] == own {
+            return false;
+        }
+        i += 1;
+    }
+    true
 }
 
 // Whether every row is, and no id stands twice.
 pub fn is_sound(board: Board) -> bool
     ensures { λ r. ⌜ r ≡ isSound (board .rows) ⌝ }
 {
+    let ids = ids_of(board);
     let mut k: usize = 0;
     while k < ROWS {
         let row = board.rows[k];
         if !is_sound_row(row) {
             return false;
         }
-        if !is_new(board, k) {
+        if !is_new(&ids, k) {
             return false;
         }
         k += 1;

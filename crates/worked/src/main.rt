@@ -69,103 +69,98 @@ fn not_withdrawn(name: &[u8], id: u64) {
     say(name, change.answer.refusal == 14);
 }
 
+// Plans in words: Q, s, n, the segments' triples, the nodes' triples.
+const PERIOD_TEN: [u64; 9] = [5, 1, 1, 1, 5, 50, 0, 50, 500000];
+
+const PERIOD_FIVE: [u64; 9] = [5, 1, 1, 1, 5, 25, 0, 25, 1000000];
+
+const LONGEST: [u64; 9] = [5, 1, 1, 1, 5, 83886075, 0, 83886075, 1];
+
+const FOUR: [u64; 21] = [
+    6,
+    2,
+    4,
+    1,
+    2,
+    6,
+    3,
+    1,
+    18,
+    0,
+    6,
+    2000000,
+    6,
+    18,
+    333334,
+    6,
+    18,
+    333334,
+    6,
+    18,
+    333334,
+];
+
+const CHILD_FIRST: [u64; 15] = [7, 2, 2, 1, 4, 40, 1, 3, 30, 40, 30, 700000, 0, 40, 700000];
+
+const LISTING: [u64; 21] = [
+    5,
+    3,
+    3,
+    2,
+    1,
+    12,
+    2,
+    1,
+    12,
+    1,
+    1,
+    6,
+    0,
+    30,
+    500000,
+    0,
+    12,
+    416667,
+    12,
+    12,
+    416667,
+];
+
 // The tables that are not starred, and the two numbers written out.
 fn tables() {
-    let ten = [5u64, 1, 1, 1, 5, 50, 0, 50, 500000];
     planned(
         b"period 10, one heavy segment",
         b"\x01\x07\x0a\x01\x05\x00",
-        &ten,
+        &PERIOD_TEN,
     );
-    let five = [5u64, 1, 1, 1, 5, 25, 0, 25, 1000000];
-    planned(b"128 is 80 01", b"\x01\x80\x01\x05\x01\x05\x00", &five);
-    let longest = [5u64, 1, 1, 1, 5, 83886075, 0, 83886075, 1];
+    planned(
+        b"128 is 80 01",
+        b"\x01\x80\x01\x05\x01\x05\x00",
+        &PERIOD_FIVE,
+    );
     planned(
         b"16,777,215 is FF FF FF 07",
         b"\x01\x07\xff\xff\xff\x07\x01\x05\x00",
-        &longest,
+        &LONGEST,
     );
 }
 
 // The slips, each on a record where it would show.
 fn slips() {
-    let four = [
-        6u64,
-        2,
-        4,
-        1,
-        2,
-        6,
-        3,
-        1,
-        18,
-        0,
-        6,
-        2000000,
-        6,
-        18,
-        333334,
-        6,
-        18,
-        333334,
-        6,
-        18,
-        333334,
-    ];
     planned(
         b"m x (2T - P) equal to C is light",
         b"\x01\x09\x04\x04\x02\x00\x01\x01\x00\x01\x01\x00\x01\x01\x00",
-        &four,
+        &FOUR,
     );
-    let child = [
-        7u64,
-        2,
-        2,
-        1,
-        4,
-        40,
-        1,
-        3,
-        30,
-        40,
-        30,
-        700000,
-        0,
-        40,
-        700000,
-    ];
     planned(
         b"a child listed before its parent, its offset no start",
         b"\x01\x05\x0a\x02\x03\x01\x01\x04\x00",
-        &child,
+        &CHILD_FIRST,
     );
-    let listing = [
-        5u64,
-        3,
-        3,
-        2,
-        1,
-        12,
-        2,
-        1,
-        12,
-        1,
-        1,
-        6,
-        0,
-        30,
-        500000,
-        0,
-        12,
-        416667,
-        12,
-        12,
-        416667,
-    ];
     planned(
         b"deadlines are fractions of time units",
         b"\x01\x03\x06\x03\x03\x00\x01\x00\x01\x01\x01",
-        &listing,
+        &LISTING,
     );
     not_withdrawn(b"id 0 finds no free row to withdraw", 0);
     alone(

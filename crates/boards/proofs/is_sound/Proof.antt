@@ -6,11 +6,13 @@ use Prim.Native.Nat.{ℕ, _-_, _≤_, _<_}
 use native.Mathlib.Omega.{arith}
 use borrow.Author.Needs.{needs}
 use borrow.Author.Tests.{eq-eqb}
+use Rattle.plain.specs.At.{at}
 use Rattle.boards.specs.declared.Row.{Row}
 use Rattle.boards.specs.declared.Board.{Board}
 use Rattle.boards.specs.Row.{rowsMax, rowAt}
 use Rattle.boards.specs.Sound.{both, isSoundRow, isNew, isSound, allTo}
 use Rattle.boards.proofs.Held.{Held, sixteen}
+use Rattle.boards.proofs.Sound.{new-among}
 use Rattle.boards.proofs.Tests.{true-both, pick-yes, pick-no, passed, failed, allTo-none, allTo-more, allTo-false}
 use Rattle.boards.proofs.is_sound.Statement.{statement}
 use Rattle.boards.proofs.is_sound.Tie as tie
@@ -28,10 +30,13 @@ fails : (b : Board) → Held b → (k : ℕ) → k < rowsMax → false ≡ passe
 fails b h k l e = whole b h (sym (allTo-false rowsMax (passes (b .rows)) k l (sym e)))
 
 abbrev Inv-loop : tie.InvT-loop
-Inv-loop board k₀ k = (k ≤ rowsMax) × (allTo k (passes (board .rows)) ≡ true)
+Inv-loop board ids k₀ k = (k ≤ rowsMax) × (allTo k (passes (board .rows)) ≡ true)
 
 abbrev μ-loop : tie.MeasureT-loop
-μ-loop board k₀ k = rowsMax - k
+μ-loop board ids k₀ k = rowsMax - k
+
+ids-of-requires : tie.Need-ids-of-requires Inv-loop μ-loop
+ids-of-requires c κs = search needs
 
 loop-holds : tie.Need-loop-holds Inv-loop μ-loop
 loop-holds c = (omega arith, allTo-none _)
@@ -48,19 +53,25 @@ is-sound-row-requires c κs = search needs
 returns : tie.Need-returns Inv-loop μ-loop
 returns c =
     let head = c .before .before .before .before in
-    let start = head .before in
+    let start = head .before .before in
     fails (start .args .t1) (start .good .0) (head .loop .k) (omega arith) (pick-no _ (failed (c .before .is-sound-row .ensures) (c .if1 .taken)) refl)
 
 is-new-requires : tie.Need-is-new-requires Inv-loop μ-loop
 is-new-requires c κs = omega arith
 
+-- the test of the ids is that of the rows
+new-so : (c : tie.After-is-new Inv-loop μ-loop) → (let head = c .before .before .before .before .before .before in c .is-new .result ≡ isNew (head .before .before .args .t1 .rows) (head .loop .k))
+new-so c =
+    let head = c .before .before .before .before .before .before in
+    c .is-new .ensures ∙ new-among (head .before .before .args .t1 .rows) (at (head .before .ids-of .result)) (head .loop .k) (omega arith) (head .before .ids-of .ensures)
+
 returns-2 : tie.Need-returns-2 Inv-loop μ-loop
 returns-2 c =
-    let one = c .before .before in
+    let one = c .before .before .before in
     let head = one .before .before .before .before in
-    let start = head .before in
+    let start = head .before .before in
     fails (start .args .t1) (start .good .0) (head .loop .k) (omega arith)
-    (pick-yes _ (passed (one .before .is-sound-row .ensures) (one .if1 .left)) (sym (failed (c .before .is-new .ensures) (c .if2 .taken))))
+    (pick-yes _ (passed (one .before .is-sound-row .ensures) (one .if1 .left)) (sym (failed (new-so (c .before)) (c .if2 .taken))))
 
 add-k : tie.Need-add-k Inv-loop μ-loop
 add-k c = omega arith
@@ -70,15 +81,15 @@ loop-less c = omega arith
 
 loop-again : tie.Need-loop-again Inv-loop μ-loop
 loop-again c =
-    let one = c .before .before in
+    let one = c .before .before .before in
     let head = one .before .before .before .before in
-    let here = true-both (passed (one .before .is-sound-row .ensures) (one .if1 .left)) (passed (c .before .is-new .ensures) (c .if2 .left)) in
-    (omega arith, allTo-more (head .loop .k) (passes (head .before .args .t1 .rows)) ∙ true-both (head .loop .inv .1) here)
+    let here = true-both (passed (one .before .is-sound-row .ensures) (one .if1 .left)) (passed (new-so (c .before)) (c .if2 .left)) in
+    (omega arith, allTo-more (head .loop .k) (passes (head .before .before .args .t1 .rows)) ∙ true-both (head .loop .inv .1) here)
 
 returns-3 : tie.Need-returns-3 Inv-loop μ-loop
 returns-3 c =
     let head = c .before in
-    let start = head .before in
+    let start = head .before .before in
     let end : head .loop .k ≡ rowsMax = omega arith in
     whole (start .args .t1) (start .good .0) (sym (rw end at (head .loop .inv .1)))
 
@@ -88,6 +99,7 @@ is-sound-spec =
     (tie.spec
     Inv-loop
     μ-loop
+    ids-of-requires
     loop-holds
     mul-row
     element-copy-out-row
