@@ -43,3 +43,13 @@ module _ (rows : List Row) (row : Row) where
       by true c e = absurd (eqb-false idStands 0 refl e)
       by false true e = refl
       by false false e = absurd (eqb-false boardFull 0 refl e)
+
+-- a row that is refused leaves the board as it is
+pub refused-unchanged : (rows : List Row) (row : Row) → (placed rows row .answer .refusal ≡ 0 → ⊥) → placed rows row ≡ unchanged rows (placed rows row .answer)
+unfolding placed
+refused-unchanged rows row = by (ltb (placeOf (row .id) rows) rowsMax) (ltb (freeAt rows) rowsMax)
+  where
+    by : (b c : Bool) → (picked rows row b c row .answer .refusal ≡ 0 → ⊥) → picked rows row b c row ≡ unchanged rows (picked rows row b c row .answer)
+    by true c n = refl
+    by false true n = absurd (n refl)
+    by false false n = refl

@@ -10,7 +10,7 @@ use lib.Seq.{take-all, getD-drop}
 use Rattle.plain.specs.At.{at}
 use Rattle.plain.proofs.Sums.{sum-same, max-same}
 use Rattle.tables.specs.declared.TaskTable.{TaskTable}
-use Rattle.tables.specs.Limits.{densityMax}
+use Rattle.tables.specs.Limits.{countMax, densityMax}
 use Rattle.shares.proofs.Millionths.{density-low, density-high}
 use Rattle.plans.specs.Accepted.{Accepted}
 use Rattle.plans.specs.Diagram.{segmentCount}
@@ -55,12 +55,12 @@ module _ (t : TaskTable) (words : List ℕ) where
   part-lent {w} {from} e k = take-all (length w - from) (drop from w) (omega (arith, length-drop from w)) ∙ rw (e, k)
 
   -- every third word is a density
-  pub density-read : (v : ℕ) → v < t .count → at nodePart (3 * v + 2) ≡ density t v
+  density-read : (v : ℕ) → v < t .count → at nodePart (3 * v + 2) ≡ density t v
   density-read v h = getD-drop (3 + 3 * segmentCount t) (written t words) (3 * v + 2) 0 ∙ at-density t words v h
 
   -- so the figures read there are the task's row
-  pub row-read : figures (t .id) (t .count) (λ v. at nodePart (3 * v + 2)) ≡ rowOf t
-  row-read = rw (sum-same (t .count) (λ v. at nodePart (3 * v + 2)) (density t) density-read, max-same (t .count) (λ v. at nodePart (3 * v + 2)) (density t) density-read)
+  pub row-read : {part : List ℕ} → part ≡ nodePart → figures (t .id) (t .count) (λ v. at part (3 * v + 2)) ≡ rowOf t
+  row-read e = rw (e, sum-same (t .count) (λ v. at nodePart (3 * v + 2)) (density t) density-read, max-same (t .count) (λ v. at nodePart (3 * v + 2)) (density t) density-read)
 
 module _ {t : TaskTable} (ok : Accepted t) (words : List ℕ) (room : wordsMax ≤ length words) where
   -- the whole plan lies inside the words
@@ -68,5 +68,9 @@ module _ {t : TaskTable} (ok : Accepted t) (words : List ℕ) (room : wordsMax �
   plan-fits = let a = words-fit ok in let b = length-written t words (omega arith) in omega arith
 
   -- and in their node part there is room for every node
-  pub nodes-room : 3 * t .count ≤ length (nodePart t words)
+  nodes-room : 3 * t .count ≤ length (nodePart t words)
   nodes-room = rw length-drop (omega (arith, plan-fits))
+
+  -- what reading the figures there asks
+  pub figures-in : {part : List ℕ} → part ≡ nodePart t words → ((t .count ≤ countMax) × (3 * t .count ≤ length part)) × ((v : ℕ) → v < t .count → at part (3 * v + 2) ≤ densityMax)
+  figures-in e = rw e ((ok .range .count-high, nodes-room), λ v h. rw (density-read t words v h) (density-most ok v h))

@@ -2,7 +2,6 @@
 use boards::Board;
 use boards::Change;
 use boards::Row;
-use plans::Diagram;
 use plans::WORDS_MAX;
 use records::Outcome;
 use refusals::Answer;
@@ -14,7 +13,6 @@ ghost use lib.ListN.{length};
 ghost use Rattle.tables.specs.Range.{InRange};
 ghost use Rattle.plans.specs.Words.{wordsMax};
 ghost use Rattle.plans.specs.Calls.{onTable};
-ghost use Rattle.plans.specs.Drawn.{Drawn};
 ghost use Rattle.boards.specs.Row.{rowsMax};
 ghost use Rattle.boards.specs.Change.{unchanged};
 ghost use Rattle.admissions.specs.Admission.{notAdmitted, entered, admission, noBoard};
@@ -41,12 +39,12 @@ fn not_admitted(board: Board, answer: Answer) -> Change
     }
 }
 
-// A task that has a plan: its place is found before any word is written, since 12 and 13 look only at its id.
-fn enter(words: &mut [u64], table: TaskTable, diagram: Diagram, board: Board) -> Change
-    requires { ⌜ Drawn table diagram × (wordsMax ≤ length (now words)) ⌝ }
-    ensures { λ r. ⌜ (r ≡ entered (board .rows) (now (words .entry)) table .change)
+// A task that was read. Its place is found first, since 12 and 13 look only at its id; they are held back until 10 and 11 are tested, and the words are written only where none of the four is given.
+fn admit_table(words: &mut [u64], table: TaskTable, board: Board) -> Change
+    requires { ⌜ InRange table × (wordsMax ≤ length (now words)) ⌝ }
+    ensures { λ r. ⌜ (r ≡ onTable (notAdmitted (board .rows) (now (words .entry))) (entered (board .rows) (now (words .entry))) table .change)
         × (r .at < rowsMax)
-        × (now (words .exit) ≡ entered (board .rows) (now (words .entry)) table .words) ⌝ }
+        × (now (words .exit) ≡ onTable (notAdmitted (board .rows) (now (words .entry))) (entered (board .rows) (now (words .entry))) table .words) ⌝ }
 {
     let id = table.id;
     let n = table.count;
@@ -59,33 +57,19 @@ fn enter(words: &mut [u64], table: TaskTable, diagram: Diagram, board: Board) ->
             largest: 0,
         },
     );
-    let answer = found.answer;
+    let place = found.answer;
+    let planning = plans::plan_table(words, table, place);
+    let answer = planning.answer;
     if answer.refusal != 0 {
-        return found;
+        return not_admitted(board, answer);
     }
-    let count = plans::write_plan(words, table, diagram);
-    let from = count - 3 * n;
+    let from = answer.value as usize - 3 * n;
     let row = boards::figures_of(&words[from..], id, n);
     Change {
         at: found.at,
         row,
-        answer,
+        answer: place,
     }
-}
-
-// A task that was read: 10, 11, or its entry.
-fn admit_table(words: &mut [u64], table: TaskTable, board: Board) -> Change
-    requires { ⌜ InRange table × (wordsMax ≤ length (now words)) ⌝ }
-    ensures { λ r. ⌜ (r ≡ onTable (notAdmitted (board .rows) (now (words .entry))) (entered (board .rows) (now (words .entry))) table .change)
-        × (r .at < rowsMax)
-        × (now (words .exit) ≡ onTable (notAdmitted (board .rows) (now (words .entry))) (entered (board .rows) (now (words .entry))) table .words) ⌝ }
-{
-    let diagram = plans::diagram_of(table);
-    let outcome = diagram.outcome;
-    let Outcome::Accepted = outcome else {
-        return not_admitted(board, plans::answer_of(outcome));
-    };
-    enter(words, table, diagram, board)
 }
 
 // Admits the task of a record: 16, 17, 1 to 9, and then its table.

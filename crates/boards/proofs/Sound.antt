@@ -90,10 +90,10 @@ test-new rows k f =
     pick-case (λ t. t ≡ true) (eqb (rowAt rows k .id) 0) (λ z. refl)
     (λ z. true-allTo k _ (λ i h. rw (ne-eqb (rowAt rows i .id) (rowAt rows k .id) (λ q. eqb-false (rowAt rows k .id) 0 z (sym q ∙ f i h q)))))
 
--- ids that are the rows' tell the same
-pub new-among : (rows : List Row) (ids : ℕ → ℕ) (k : ℕ) → k < rowsMax → ((i : ℕ) → i < rowsMax → ids i ≡ rowAt rows i .id) → isNewAmong ids k ≡ isNew rows k
+-- ids that are those of the rows so far tell the same
+pub new-among : (rows : List Row) (ids : ℕ → ℕ) (k : ℕ) → ((i : ℕ) → i ≤ k → ids i ≡ rowAt rows i .id) → isNewAmong ids k ≡ isNew rows k
 unfolding isNew
-new-among rows ids k h e = rw (e k h, allTo-same k (λ i. pick (eqb (ids i) (rowAt rows k .id)) false true) (λ i. pick (eqb (rowAt rows i .id) (rowAt rows k .id)) false true) (λ i l. rw (e i (omega arith))))
+new-among rows ids k e = rw (e k (omega arith), allTo-same k (λ i. pick (eqb (ids i) (rowAt rows k .id)) false true) (λ i. pick (eqb (rowAt rows i .id) (rowAt rows k .id)) false true) (λ i l. rw (e i (omega arith))))
 
 -- the whole test
 pub sound-test : (rows : List Row) → isSound rows ≡ true → Sound rows

@@ -139,20 +139,6 @@ fn is_sound_row(row: Row) -> bool
     is_standing(row)
 }
 
-// The rows' ids, read once: the test of each row against the others is then no walk over whole rows.
-fn ids_of(board: Board) -> [u64; 16]
-    ensures { λ r. ⌜ ((k : ℕ) → k < rowsMax → at r k ≡ rowAt (board .rows) k .id) ⌝ }
-{
-    let mut ids = [0u64; ROWS];
-    let mut k: usize = 0;
-    while k < ROWS {
-        let row = board.rows[k];
-        ids[k] = row.id;
-        k += 1;
-    }
-    ids
-}
-
 // Whether no earlier entry is entry k's id; id 0 doesn't count.
 fn is_new(ids: &[u64; 16], k: usize) -> bool
     requires { ⌜ k < rowsMax ⌝ }
@@ -172,17 +158,18 @@ fn is_new(ids: &[u64; 16], k: usize) -> bool
     true
 }
 
-// Whether every row is, and no id stands twice.
+// Whether every row is, and no id stands twice. The ids are kept on the way: the test of each against the earlier ones is then no walk over whole rows.
 pub fn is_sound(board: Board) -> bool
     ensures { λ r. ⌜ r ≡ isSound (board .rows) ⌝ }
 {
-    let ids = ids_of(board);
+    let mut ids = [0u64; ROWS];
     let mut k: usize = 0;
     while k < ROWS {
         let row = board.rows[k];
         if !is_sound_row(row) {
             return false;
         }
+        ids[k] = row.id;
         if !is_new(&ids, k) {
             return false;
         }

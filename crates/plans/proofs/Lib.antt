@@ -3,7 +3,7 @@ pub mod Table
 pub mod Kept
 pub mod Tests
 pub mod Front
-pub mod Drawing
+pub mod Lined
 pub mod Nodes
 pub mod Read
 mod Worked

@@ -1,7 +1,6 @@
 -- The nodes' part of a plan: the front of the words holds the table's segments, so what the words give a node by its start and finish is its
 -- offset and deadline in stretched time; and the part that is filled stands behind the front in the whole.
 use mathlib.Core.Path.{_≡_, refl, sym, ap, _∙_}
-use mathlib.Core.Logic.{_⊎_, inl, inr, ⊎-elim}
 use mathlib.Core.List.{List, [], _∷_, _++_, append-assoc, append-nil}
 use Prim.Native.Nat.{ℕ, suc, _+_, _-_, _*_, _^_, _≤_, _<_}
 use native.Mathlib.Nat.{le-trans, le-refl}
@@ -15,28 +14,22 @@ use Rattle.plain.specs.Sums.{sumTo}
 use Rattle.plain.proofs.Sums.{sum-same}
 use Rattle.tables.specs.declared.TaskTable.{TaskTable}
 use Rattle.ways.proofs.Totals.{work-le}
-use Rattle.segments.specs.Cut.{cut}
 use Rattle.segments.specs.Share.{by}
-use Rattle.segments.proofs.Cuts.{gap}
-use Rattle.segments.proofs.Diagram.{start-mark}
-use Rattle.segments.proofs.Segments.{segments-le, lengthOf-pos, lengths-to}
+use Rattle.segments.proofs.Segments.{segments-le, lengths-to}
 use Rattle.segments.proofs.Shares.{share-by}
-use Rattle.shares.specs.declared.Shares.{Shares}
-use Rattle.shares.specs.Asked.{SumsIn, SharesIn, NodesIn, numeratorMax}
+use Rattle.shares.specs.Asked.{SumsIn, NodesIn, numeratorMax}
 use Rattle.shares.specs.Density.{millionths}
 use Rattle.shares.specs.Triples.{triples}
-use Rattle.shares.specs.Words.{edge, offsetIn, deadlineIn}
-use Rattle.shares.specs.Written.{SharesOf}
+use Rattle.shares.specs.Words.{stretchedIn}
 use Rattle.shares.proofs.Bounds.{over-high, whole-high, density-in}
-use Rattle.shares.proofs.Edges.{Holds, edge-is, numerators-are, offset-is, stretched}
+use Rattle.shares.proofs.Edges.{Holds, edge-is, numerators-are, stretched-is}
 use Rattle.shares.proofs.Triples.{triples-hold, triples-same}
 use Rattle.plans.specs.declared.Cut.{Cut}
-use Rattle.plans.specs.declared.Diagram.{Diagram}
 use Rattle.plans.specs.Diagram.{start, finish, work, path, segmentCount, threadsIn, lengthIn}
 use Rattle.plans.specs.Shares.{over, numeratorOf, deadline, offset, density}
 use Rattle.plans.specs.Words.{wordCount, wordsMax, frontWords, nodeWords, written}
 use Rattle.plans.specs.Accepted.{Accepted}
-use Rattle.plans.specs.Drawn.{Drawn, Fronted}
+use Rattle.plans.specs.Drawn.{Lined, Fronted}
 use Rattle.plans.proofs.Table.{diagram, cutting, path-latest}
 use Rattle.plans.proofs.Kept.{offset-by, kept}
 
@@ -62,32 +55,24 @@ module _ {t : TaskTable} (ok : Accepted t) {w : List ℕ} (room : wordsMax ≤ l
   }
 
   -- what ends by a time, in the words and in the diagram
-  by-words : (a : ℕ) → offsetIn w (segmentCount t) a ≡ by (t .count) (finish t) (numeratorOf t) a
+  by-words : (a : ℕ) → stretchedIn w (segmentCount t) a ≡ by (t .count) (finish t) (numeratorOf t) a
   unfolding by
-  by-words a = offset-is h a ∙ sum-same (segmentCount t) _ _ (λ j l. ap (λ (x : ℕ). upTo x a * numeratorOf t j) (lengths-to (t .count) (finish t) (suc j)))
+  by-words a = stretched-is h a ∙ sum-same (segmentCount t) _ _ (λ j l. ap (λ (x : ℕ). upTo x a * numeratorOf t j) (lengths-to (t .count) (finish t) (suc j)))
 
-  -- the words give each node its offset and its deadline
-  offset-so : (v : ℕ) → v < t .count → offsetIn w (segmentCount t) (start t v) ≡ offset t v
+  -- so at its start a node has its offset, and at its finish offset and deadline
+  offset-so : (v : ℕ) → v < t .count → stretchedIn w (segmentCount t) (start t v) ≡ offset t v
   offset-so v l = by-words (start t v) ∙ sym (offset-by ok v l)
 
-  deadline-so : (v : ℕ) → v < t .count → deadlineIn w (segmentCount t) (start t v) (finish t v) ≡ deadline t v
+  end-so : (v : ℕ) → v < t .count → stretchedIn w (segmentCount t) (finish t v) ≡ offset t v + deadline t v
   unfolding deadline
-  deadline-so v l =
-      let a = stretched w (segmentCount t) (start t v) (finish t v) (let e = diagram ok .ends v l in omega arith) (λ j k. rw (h .lengths j k) (lengthOf-pos (t .count) (finish t) j k)) across in
-      let b = by-words (start t v) in
-      let c = by-words (finish t v) in
-      let d = share-by (diagram ok) (numeratorOf t) v l in
-      omega arith
-    where
-      across : (j : ℕ) → j < segmentCount t → (edge w (suc j) ≤ start t v) ⊎ (start t v ≤ edge w j)
-      across j k =
-          let e = edge-is h j (omega arith) ∙ lengths-to (t .count) (finish t) j in
-          let f = edge-is h (suc j) k ∙ lengths-to (t .count) (finish t) (suc j) in
-          ⊎-elim (λ (x : start t v ≤ cut (t .count) (finish t) j). inr (omega arith)) (λ (x : cut (t .count) (finish t) (suc j) ≤ start t v). inl (omega arith)) (gap (t .count) (finish t) (start-mark (diagram ok) v l) j)
+  end-so v l =
+      let a = offset-by ok v l in
+      let b = share-by (diagram ok) (numeratorOf t) v l in
+      by-words (finish t v) ∙ omega arith
 
-module _ {t : TaskTable} {d : Diagram} {c : Cut} {w : List ℕ} (drawn : Drawn t d) (front : Fronted t c w) where
+module _ {t : TaskTable} {S F A B : List ℕ} {c : Cut} {w : List ℕ} (lined : Lined t S F A B) (front : Fronted t c w) where
   ok : Accepted t
-  ok = drawn .table
+  ok = lined .table
 
   h : Holds w (segmentCount t) (threadsIn t) (lengthIn t) (numeratorOf t)
   h = front-holds t w (front .front)
@@ -96,34 +81,34 @@ module _ {t : TaskTable} {d : Diagram} {c : Cut} {w : List ℕ} (drawn : Drawn t
   pub room : 3 + 3 * c .segments + 3 * t .count ≤ length w
   room = let a = segments-le (t .count) (finish t) in let b = ok .range .count-high in let e = front .room in let f = front .segments in omega arith
 
-  -- what the shares of the nodes ask
-  pub shares-in : SharesIn w (c .segments) (d .starts) (d .finishes) (t .count)
-  shares-in = rw (front .segments) (record {
-    sums = sums ok (front .room) h;
-    count = ok .range .count-high;
-    runs = λ v l. let a = drawn .starts v in let b = drawn .finishes v in let e = diagram ok .ends v l in omega arith;
-  })
+  -- what the walks along the segments ask
+  pub sums-in : SumsIn w (c .segments)
+  sums-in = rw (front .segments) (sums ok (front .room) h)
 
-  -- and what they are
-  module _ {r : Shares} (given : SharesOf w (c .segments) (at (d .starts)) (at (d .finishes)) (t .count) r) where
-    offsets : (v : ℕ) → v < t .count → at (r .offsets) v ≡ offset t v
-    offsets v l = given .offset v l ∙ rw (front .segments, drawn .starts v) (offset-so ok (front .room) h v l)
+  -- and what they give
+  module _ (O E : List ℕ) (at-start : (v : ℕ) → v < t .count → at O v ≡ stretchedIn w (c .segments) (at S v)) (at-finish : (v : ℕ) → v < t .count → at E v ≡ stretchedIn w (c .segments) (at F v)) where
+    offsets : (v : ℕ) → v < t .count → at O v ≡ offset t v
+    offsets v l = at-start v l ∙ rw (front .segments, lined .starts v) (offset-so ok (front .room) h v l)
 
-    deadlines : (v : ℕ) → v < t .count → at (r .deadlines) v ≡ deadline t v
-    deadlines v l = given .deadline v l ∙ rw (front .segments, drawn .starts v, drawn .finishes v) (deadline-so ok (front .room) h v l)
+    ends : (v : ℕ) → v < t .count → at E v ≡ offset t v + deadline t v
+    ends v l = at-finish v l ∙ rw (front .segments, lined .finishes v) (end-so ok (front .room) h v l)
+
+    deadlines : (v : ℕ) → v < t .count → at E v - at O v ≡ deadline t v
+    deadlines v l = let a = offsets v l in let b = ends v l in omega arith
 
     -- what the writer of the node part asks
-    pub nodes-in : {words : ℕ} → 3 * t .count ≤ words → NodesIn (r .deadlines) (t .execution) (t .count) (c .over) words
+    pub nodes-in : {words : ℕ} → 3 * t .count ≤ words → NodesIn O E (t .execution) (t .count) (c .over) words
     nodes-in k = record {
       count = ok .range .count-high;
       room = k;
+      runs = λ v l. let a = offsets v l in let b = ends v l in omega arith;
       each = λ v l. rw (deadlines v l, front .over) (density-in (ok .range .execution-low v l) (ok .range .execution-high v) (kept ok .over-some)
           (over-high (cutting ok) (ok .range .period-high) (work-le (t .execution) (t .count) _ (ok .range .execution-high) (ok .range .count-high)))
           (kept ok .at-least-half v l) (let a = kept ok .within-period v l in let b = whole-low ok in let e = kept ok .whole-period in omega arith));
     }
 
     -- the triples that it writes
-    pub nodes-so : triples (at (r .offsets)) (at (r .deadlines)) (λ v. millionths (at (t .execution) v) (c .over) (at (r .deadlines) v)) (t .count) ≡ nodeWords t
+    pub nodes-so : triples (at O) (λ v. at E v - at O v) (λ v. millionths (at (t .execution) v) (c .over) (at E v - at O v)) (t .count) ≡ nodeWords t
     unfolding nodeWords density
     nodes-so = triples-same _ _ _ (offset t) (deadline t) (density t) (t .count) offsets deadlines (λ v l. rw (deadlines v l, front .over))
 

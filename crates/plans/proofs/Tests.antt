@@ -1,16 +1,17 @@
 -- What a table comes to by the tests that the planner makes, in their order.
-use mathlib.Core.Path.{_≡_, refl}
+use mathlib.Core.Path.{_≡_, refl, ap}
 use mathlib.Core.Bool.{Bool, true, false}
 use mathlib.Core.List.{List}
 use Prim.Native.Nat.{ℕ, _≤_, _<_}
 use native.Mathlib.Omega.{arith}
-use borrow.Author.Tests.{lt-ltb, le-ltb}
+use borrow.Author.Tests.{lt-ltb, le-ltb, eq-eqb, ne-eqb}
 use lib.Dec.{ltb}
 use lib.ListN.{length}
 use Rattle.plain.specs.Pick.{pick}
 use Rattle.refusals.specs.Numbers.{loop, longPath, fewWords}
 use Rattle.tables.specs.declared.TaskTable.{TaskTable}
 use Rattle.refusals.specs.declared.Refusal.{Refusal}
+use Rattle.refusals.specs.declared.Answer.{Answer}
 use Rattle.records.specs.declared.Outcome.{Outcome}
 use Rattle.records.specs.declared.Reading.{Reading}
 use Rattle.records.specs.declared.Outcome.the-variants.{Accepted, Refused}
@@ -19,7 +20,7 @@ use Rattle.records.specs.Reading.{readingOf}
 use Rattle.ways.specs.Closure.{loops}
 use Rattle.plans.specs.Diagram.{path}
 use Rattle.plans.specs.Words.{wordsMax}
-use Rattle.plans.specs.Calls.{onTable, onReading, onTask, unplanned, planned, planCall}
+use Rattle.plans.specs.Calls.{onTable, onReading, onTask, unplanned, planned, plannedUnless, planCall}
 use Rattle.plans.specs.Drawn.{outcomeOf}
 
 -- an outcome is not a refusal and an acceptance at once
@@ -61,6 +62,16 @@ module _ {A : Type 0} (refuse : ℕ → ℕ → A) (go : TaskTable → A) (t : T
       by false true e = absurd (not-both refl e)
       by false false e = refl
 
+-- 10 and 11 are numbers above 0, so that an answer with 0 is no refusal
+pub refused-some : (t : TaskTable) {r : Refusal} → outcomeOf t ≡ Refused r → r .number ≡ 0 → ⊥
+unfolding onTable
+refused-some t {r} = by (loops (t .parents) (t .count)) (ltb (t .period) (path t))
+  where
+    by : (b c : Bool) → pick b (Refused (refusal loop 0)) (pick c (Refused (refusal longPath 0)) Accepted) ≡ Refused r → r .number ≡ 0 → ⊥
+    by true c e z = let same : r ≡ refusal loop 0 = cc in let n = ap (λ (x : Refusal). x .number) same in omega arith
+    by false true e z = let same : r ≡ refusal longPath 0 = cc in let n = ap (λ (x : Refusal). x .number) same in omega arith
+    by false false e z = absurd (not-both e refl)
+
 -- a record, by the outcome of its reading
 module _ {A : Type 0} (refuse : ℕ → ℕ → A) (go : TaskTable → A) (bytes : List ℕ) where
   pub task-refused : {r : Refusal} → readingOf bytes .outcome ≡ Refused r → onTask refuse go bytes ≡ refuse (r .number) (r .place)
@@ -80,3 +91,11 @@ module _ (bytes words : List ℕ) where
   pub enough : wordsMax ≤ length words → planCall bytes words ≡ onTask (unplanned words) (planned words) bytes
   unfolding planCall
   enough h = rw (le-ltb (length words) wordsMax h)
+
+-- a plan that a refusal is held against, and one that none is
+module _ (held : Answer) (words : List ℕ) (t : TaskTable) where
+  pub held-back : (held .refusal ≡ 0 → ⊥) → plannedUnless held words t ≡ record { answer = held; words = words }
+  held-back n = rw (ne-eqb (held .refusal) 0 n)
+
+  pub not-held : held .refusal ≡ 0 → plannedUnless held words t ≡ planned words t
+  not-held e = rw (eq-eqb (held .refusal) 0 e)

@@ -1,7 +1,7 @@
 -- Planning as one definition: "Planning checks 16, then 1 to 9 as met, then 10, 11."
 use mathlib.Core.List.{List}
 use Prim.Native.Nat.{ℕ}
-use lib.Dec.{ltb}
+use lib.Dec.{eqb, ltb}
 use lib.ListN.{length}
 use Rattle.plain.specs.Pick.{pick}
 use Rattle.refusals.specs.Numbers.{loop, longPath, fewWords}
@@ -41,6 +41,10 @@ unplanned words number place = record { answer = refused number place; words = w
 -- "Planning returns that number of words"
 abbrev pub planned : List ℕ → TaskTable → Planned
 planned words t = record { answer = accepted (wordCount (segmentCount t) (t .count)); words = written t words }
+
+-- the same, where the caller holds no refusal that comes after 10 and 11, as 12 and 13 do
+abbrev pub plannedUnless : Answer → List ℕ → TaskTable → Planned
+plannedUnless held words t = pick (eqb (held .refusal) 0) (planned words t) (record { answer = held; words = words })
 
 -- planning the record `bytes` into `words`
 unfoldable pub planCall : List ℕ → List ℕ → Planned

@@ -10,7 +10,9 @@ use Rattle.refusals.specs.Answer.{accepted, refused}
 use Rattle.records.specs.declared.Outcome.{Outcome}
 use Rattle.records.specs.declared.Outcome.the-variants as outcome
 use Rattle.records.specs.Step.{refusal}
-use Rattle.plans.specs.declared.Diagram.{Diagram}
+use Rattle.lineups.specs.LinedUp.{LinedUp}
+use Rattle.plans.specs.declared.Drawing.{Drawing}
+use Rattle.plans.specs.declared.Planning.{Planning}
 use Rattle.plans.specs.Diagram.{start, finish, work, path}
 use Rattle.plans.specs.declared.Cut.{Cut}
 use Rattle.plans.specs.Diagram.{segmentCount}
@@ -28,11 +30,17 @@ abbrev pub answerOf : Outcome → Answer
 answerOf outcome.Accepted = accepted 0
 answerOf (outcome.Refused r) = refused (r .number) (r .place)
 
--- starts, finishes, work and path of the table
-pub record Drawn (t : TaskTable) (d : Diagram) : Type 0 where
+-- S and F hold the table's starts and finishes, A and B its nodes in the order of these
+pub record Lined (t : TaskTable) (S F A B : List ℕ) : Type 0 where
   pub table : Accepted t
-  pub starts : (v : ℕ) → at (d .starts) v ≡ start t v
-  pub finishes : (v : ℕ) → at (d .finishes) v ≡ finish t v
+  pub starts : (v : ℕ) → at S v ≡ start t v
+  pub finishes : (v : ℕ) → at F v ≡ finish t v
+  pub starting : LinedUp (t .count) (start t) A
+  pub finishing : LinedUp (t .count) (finish t) B
+
+-- the same beside the table's work and path
+pub record Drawn (t : TaskTable) (d : Drawing) (S F A B : List ℕ) : Type 0 where
+  pub lined : Lined t S F A B
   pub work : d .work ≡ work t
   pub path : d .path ≡ path t
 
@@ -42,3 +50,9 @@ pub record Fronted (t : TaskTable) (c : Cut) (words : List ℕ) : Type 0 where
   pub over : c .over ≡ over t
   pub room : wordsMax ≤ length words
   pub front : take (3 + 3 * segmentCount t) words ≡ frontWords t
+
+-- work and path are those of the table, which is accepted
+pub record Totalled (t : TaskTable) (p : Planning) : Type 0 where
+  pub table : Accepted t
+  pub work : p .work ≡ work t
+  pub path : p .path ≡ path t

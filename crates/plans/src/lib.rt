@@ -6,64 +6,66 @@ use tables::TaskTable;
 ghost use mathlib.Core.Path.{_≡_};
 ghost use mathlib.Core.List.{_++_};
 ghost use Prim.Native.Nat.{ℕ, _+_, _*_, _≤_};
-ghost use lib.ListN.{length, drop};
+ghost use lib.ListN.{length, drop, replicate};
 ghost use Rattle.tables.specs.Range.{InRange};
 ghost use Rattle.records.specs.Step.{refusal};
 ghost use Rattle.plans.specs.Diagram.{segmentCount};
 ghost use Rattle.plans.specs.Shares.{over};
 ghost use Rattle.plans.specs.Words.{wordCount, wordsMax, frontWords, written};
-ghost use Rattle.plans.specs.Calls.{onTable, unplanned, planned, planCall};
-ghost use Rattle.plans.specs.Drawn.{outcomeOf, answerOf, Drawn, Fronted};
+ghost use Rattle.plans.specs.Calls.{onTable, unplanned, plannedUnless, planCall};
+ghost use Rattle.plans.specs.Drawn.{outcomeOf, answerOf, Lined, Drawn, Fronted, Totalled};
 
 // The limit of specs/: the most words that a plan has.
 pub const WORDS_MAX: usize = 387;
 
-// A table's timing diagram, or the refusal that stands in its way.
-pub struct Diagram {
+// What is said of a table's timing diagram beside its arrays: the refusal that stands in its way, or its work and its path.
+pub struct Drawing {
     pub outcome: Outcome,
-    pub starts: [u64; 64],
-    pub finishes: [u64; 64],
     pub work: u64,
     pub path: u64,
 }
 
 // No diagram, with the refusal.
-fn no_diagram(number: u64) -> Diagram
+fn undrawn(number: u64) -> Drawing
     ensures { λ r. ⌜ r .outcome ≡ Outcome.Refused (refusal number 0) ⌝ }
 {
-    Diagram {
+    Drawing {
         outcome: Outcome::Refused(Refusal { number, place: 0 }),
-        starts: [0; 64],
-        finishes: [0; 64],
         work: 0,
         path: 0,
     }
 }
 
-// The timing diagram of a table: 10 where some node is reached from itself, 11 where the path is longer than the period.
-pub fn diagram_of(table: TaskTable) -> Diagram
-    requires { ⌜ InRange table ⌝ }
-    ensures { λ r. ⌜ (r .outcome ≡ outcomeOf table) × (r .outcome ≡ Outcome.Accepted → Drawn table r) ⌝ }
+// The timing diagram of a table, into arrays of zeros: starts, finishes, and the nodes in the order in which they start and finish. 10 where some node is reached from itself, 11 where the path is longer than the period.
+fn draw(
+    starts: &mut [u64; 64],
+    finishes: &mut [u64; 64],
+    starting: &mut [usize; 64],
+    finishing: &mut [usize; 64],
+    table: TaskTable,
+) -> Drawing
+    requires { ⌜ InRange table × (now starts ≡ replicate 64 0) × (now finishes ≡ replicate 64 0) × (length (now starting) ≡ 64) ⌝ }
+    ensures { λ r. ⌜ (r .outcome ≡ outcomeOf table) × (r .outcome ≡ Outcome.Accepted → Drawn table r (now (starts .exit)) (now (finishes .exit)) (now (starting .exit)) (now (finishing .exit))) ⌝ }
 {
     let n = table.count;
     let parents = table.parents;
     let execution = table.execution;
-    let order = ways::order_of(&parents, n);
-    if order.count < n {
-        return no_diagram(Refusal::LOOP);
+    let count = ways::order_of(starting, &parents, n);
+    if count < n {
+        return undrawn(Refusal::LOOP);
     }
-    let list = order.list;
-    let finishes = ways::ends_of(&parents, &execution, &list, n);
-    let path = ways::path_of(&finishes, n);
+    ways::times_of(starts, finishes, &parents, &execution, starting, n);
+    let path = ways::path_of(finishes, n);
     if table.period < path {
-        return no_diagram(Refusal::LONG_PATH);
+        return undrawn(Refusal::LONG_PATH);
     }
-    let starts = ways::begins_of(&parents, &finishes, n);
+    let list = *starting;
+    *finishing = list;
+    lineups::line_up(starting, starts, n);
+    lineups::line_up(finishing, finishes, n);
     let work = ways::work_of(&execution, n);
-    Diagram {
+    Drawing {
         outcome: Outcome::Accepted,
-        starts,
-        finishes,
         work,
         path,
     }
@@ -76,16 +78,24 @@ pub struct Cut {
 }
 
 // The head and the segments' triples.
-fn write_segments(words: &mut [u64], table: TaskTable, diagram: Diagram) -> Cut
-    requires { ⌜ Drawn table diagram × (wordsMax ≤ length (now words)) ⌝ }
+fn write_segments<'a>(
+    words: &mut [u64],
+    starts: &'a [u64; 64],
+    finishes: &'a [u64; 64],
+    starting: &'a [usize; 64],
+    finishing: &'a [usize; 64],
+    table: TaskTable,
+    drawing: Drawing,
+) -> Cut
+    requires { ⌜ Drawn table drawing (now starts) (now finishes) (now starting) (now finishing) × (wordsMax ≤ length (now words)) ⌝ }
     ensures { λ r. ⌜ (r .segments ≡ segmentCount table) × (r .over ≡ over table) ⌝ }
     ensures { λ r. ⌜ now (words .exit) ≡ frontWords table ++ drop (3 + 3 * r .segments) (now (words .entry)) ⌝ }
 {
     let n = table.count;
     let period = table.period;
-    let work = diagram.work;
-    let path = diagram.path;
-    let s = segments::cut_words(words, &diagram.starts, &diagram.finishes, n, path);
+    let work = drawing.work;
+    let path = drawing.path;
+    let s = segments::cut_words(words, starts, finishes, starting, finishing, n);
     let deal = shares::deal_of(words, s, period, work, path);
     shares::fill_numerators(words, s, deal, period, work, path);
     words[0] = deal.over;
@@ -98,33 +108,44 @@ fn write_segments(words: &mut [u64], table: TaskTable, diagram: Diagram) -> Cut
 }
 
 // The nodes' triples, in the part after the last segment; the number of words of the whole plan.
-fn write_nodes(words: &mut [u64], table: TaskTable, diagram: Diagram, cut: Cut) -> usize
-    requires { ⌜ Drawn table diagram × Fronted table cut (now words) ⌝ }
+fn write_nodes<'a>(
+    words: &mut [u64],
+    starts: &'a [u64; 64],
+    finishes: &'a [u64; 64],
+    starting: &'a [usize; 64],
+    finishing: &'a [usize; 64],
+    table: TaskTable,
+    cut: Cut,
+) -> usize
+    requires { ⌜ Lined table (now starts) (now finishes) (now starting) (now finishing) × Fronted table cut (now words) ⌝ }
     ensures { λ r. ⌜ r ≡ wordCount (segmentCount table) (table .count) ⌝ }
     ensures { λ r. ⌜ now (words .exit) ≡ written table (now (words .entry)) ⌝ }
 {
     let n = table.count;
     let s = cut.segments;
-    let shares = shares::shares_of(words, s, &diagram.starts, &diagram.finishes, n);
+    let offsets = shares::stretched(words, s, starts, starting, n);
+    let ends = shares::stretched(words, s, finishes, finishing, n);
+    let execution = table.execution;
     let from = 3 + 3 * s;
-    shares::fill_nodes(
-        &mut words[from..],
-        &shares.offsets,
-        &shares.deadlines,
-        &table.execution,
-        n,
-        cut.over,
-    );
+    shares::fill_nodes(&mut words[from..], &offsets, &ends, &execution, n, cut.over);
     from + 3 * n
 }
 
 // The plan of a table, from its timing diagram; the number of words.
-pub fn write_plan(words: &mut [u64], table: TaskTable, diagram: Diagram) -> usize
-    requires { ⌜ Drawn table diagram × (wordsMax ≤ length (now words)) ⌝ }
+fn write_plan<'a>(
+    words: &mut [u64],
+    starts: &'a [u64; 64],
+    finishes: &'a [u64; 64],
+    starting: &'a [usize; 64],
+    finishing: &'a [usize; 64],
+    table: TaskTable,
+    drawing: Drawing,
+) -> usize
+    requires { ⌜ Drawn table drawing (now starts) (now finishes) (now starting) (now finishing) × (wordsMax ≤ length (now words)) ⌝ }
     ensures { λ r. ⌜ (r ≡ wordCount (segmentCount table) (table .count)) × (now (words .exit) ≡ written table (now (words .entry))) ⌝ }
 {
-    let cut = write_segments(words, table, diagram);
-    write_nodes(words, table, diagram, cut)
+    let cut = write_segments(words, starts, finishes, starting, finishing, table, drawing);
+    write_nodes(words, starts, finishes, starting, finishing, table, cut)
 }
 
 // The answer that an outcome which is no acceptance comes to.
@@ -137,17 +158,52 @@ pub fn answer_of(outcome: Outcome) -> Answer
     }
 }
 
-// The plan of a table, or its refusal.
-fn plan_table(words: &mut [u64], table: TaskTable) -> Answer
+// What planning a table comes to: the answer, and where that is no refusal, the table's work and path.
+pub struct Planning {
+    pub answer: Answer,
+    pub work: u64,
+    pub path: u64,
+}
+
+// The plan of a table: 10, 11, then a refusal that the caller holds, as 12 and 13 of an admission, and only then are words written.
+pub fn plan_table(words: &mut [u64], table: TaskTable, held: Answer) -> Planning
     requires { ⌜ InRange table × (wordsMax ≤ length (now words)) ⌝ }
-    ensures { λ r. ⌜ (r ≡ onTable (unplanned (now (words .entry))) (planned (now (words .entry))) table .answer) × (now (words .exit) ≡ onTable (unplanned (now (words .entry))) (planned (now (words .entry))) table .words) ⌝ }
+    ensures { λ r. ⌜ (r .answer ≡ onTable (unplanned (now (words .entry))) (plannedUnless held (now (words .entry))) table .answer) × (now (words .exit) ≡ onTable (unplanned (now (words .entry))) (plannedUnless held (now (words .entry))) table .words) ⌝ }
+    ensures { λ r. ⌜ (r .answer .refusal ≡ 0 → Totalled table r) ⌝ }
 {
-    let diagram = diagram_of(table);
-    let outcome = diagram.outcome;
+    let mut starts = [0u64; 64];
+    let mut finishes = [0u64; 64];
+    let mut starting = [0usize; 64];
+    let mut finishing = [0usize; 64];
+    let drawing = draw(
+        &mut starts,
+        &mut finishes,
+        &mut starting,
+        &mut finishing,
+        table,
+    );
+    let outcome = drawing.outcome;
+    let work = drawing.work;
+    let path = drawing.path;
     let Outcome::Accepted = outcome else {
-        return answer_of(outcome);
+        let answer = answer_of(outcome);
+        return Planning { answer, work, path };
     };
-    Answer::accepted(write_plan(words, table, diagram) as u64)
+    if held.refusal != 0 {
+        let answer = held;
+        return Planning { answer, work, path };
+    }
+    let count = write_plan(
+        words,
+        &starts,
+        &finishes,
+        &starting,
+        &finishing,
+        table,
+        drawing,
+    );
+    let answer = Answer::accepted(count as u64);
+    Planning { answer, work, path }
 }
 
 // Plans the task of a record into the words; the answer's value is the number of words.
@@ -162,5 +218,6 @@ pub fn plan(bytes: &[u8], words: &mut [u64]) -> Answer
     let Outcome::Accepted = outcome else {
         return answer_of(outcome);
     };
-    plan_table(words, reading.table)
+    let planning = plan_table(words, reading.table, Answer::accepted(0));
+    planning.answer
 }

@@ -1,15 +1,15 @@
 -- No step leaves the input: a number's bytes are bytes of the rest, so the place after it is at most the input's length; and a refusal stands
 -- where the reader has come to, or at the input's end.
-use Prim.Native.Nat.{ℕ, zero, suc, _+_, _-_, _^_, _≤_, _<_}
-use mathlib.Core.Path.{_≡_, refl, sym, _∙_}
+use Prim.Native.Nat.{ℕ, zero, suc, _+_, _-_, _*_, _%_, _^_, _≤_, _<_}
+use mathlib.Core.Path.{_≡_, refl, sym, ap, _∙_}
 use mathlib.Core.Bool.{Bool, true, false, _&&_}
 use mathlib.Core.List.{List}
-use native.Mathlib.Nat.{two-pow-succ, lt-of-lt-of-le}
+use native.Mathlib.Nat.{two-pow-succ, lt-of-lt-of-le, one-mul, mod-eq-of-lt}
 use native.Mathlib.Numerals.{add-one}
 use native.Mathlib.Omega.{arith}
 use lib.ListN.{length, drop, length-drop}
 use lib.Dec.{leb}
-use lib.Pow.{pow-mono}
+use lib.Pow.{pow-lt, pow-mono}
 use borrow.Author.Tests.{leb-true}
 use Rattle.plain.specs.Pick.{pick}
 use Rattle.refusals.specs.declared.Refusal.{Refusal}
@@ -98,6 +98,13 @@ passed broken low high s at found v next e d t =
 -- a set of numbers below low has room for p
 pub set-room : (set low p : ℕ) → set < 2 ^ low → low ≤ p → set + 2 ^ p < 2 ^ (p + 1)
 set-room set low p h l = rw (add-one p, two-pow-succ p) (omega (arith, pow-mono l))
+
+-- the word of p alone; a set's word has room for it
+pub bit-word : (p : ℕ) → p < 64 → (1 * 2 ^ p) % 2 ^ 64 ≡ 2 ^ p
+bit-word p h = ap (λ (w : ℕ). w % 2 ^ 64) (one-mul (2 ^ p)) ∙ mod-eq-of-lt (pow-lt h)
+
+pub word-room : (set low p : ℕ) → set < 2 ^ low → low ≤ p → p < 64 → set + (1 * 2 ^ p) % 2 ^ 64 < 2 ^ 64
+word-room set low p h l q = rw (bit-word p q) (lt-of-lt-of-le (set-room set low p h l) (pow-mono {i = p + 1} {j = 64} (omega arith)))
 
 -- the set that the parents make holds only nodes below n
 pub parents-inside : (k n low set : ℕ) (s : List ℕ) (at : ℕ) → 1 ≤ n → low ≤ n → set < 2 ^ low → at ≤ length s →

@@ -3,7 +3,7 @@ use numbers::Number;
 use refusals::Refusal;
 use tables::TaskTable;
 ghost use mathlib.Core.Path.{_≡_};
-ghost use Prim.Native.Nat.{_≤_};
+ghost use Prim.Native.Nat.{_^_, _≤_, _<_};
 ghost use lib.ListN.{length};
 ghost use Rattle.tables.specs.Limits.{countMax};
 ghost use Rattle.tables.specs.Table.{emptyTable};
@@ -38,8 +38,14 @@ fn refuse(number: u64, place: usize) -> Step
     Step::Refused(Refusal { number, place })
 }
 
-// The number at a place, whole.
-fn read_whole(bytes: &[u8], at: usize) -> Step
+fn wide(x: u8) -> u64
+    ensures { λ r. ⌜ r ≡ x ⌝ }
+{
+    x as u64
+}
+
+// The number at a place, whole, whatever its length.
+fn read_any(bytes: &[u8], at: usize) -> Step
     requires { ⌜ at ≤ length (now bytes) ⌝ }
     ensures { λ r. ⌜ r ≡ whole (now (bytes .entry)) at ⌝ }
 {
@@ -54,6 +60,37 @@ fn read_whole(bytes: &[u8], at: usize) -> Step
         value,
         next: at + length,
     }
+}
+
+// The number at a place, whole. Nearly all are at most three bytes, and more numbers follow, so that is tried first.
+fn read_whole(bytes: &[u8], at: usize) -> Step
+    requires { ⌜ at ≤ length (now bytes) ⌝ }
+    ensures { λ r. ⌜ r ≡ whole (now (bytes .entry)) at ⌝ }
+{
+    if 2 < bytes.len() - at {
+        let first = wide(bytes[at]);
+        if first < 128 {
+            return Step::Read {
+                value: first,
+                next: at + 1,
+            };
+        }
+        let second = wide(bytes[at + 1]);
+        if 0 < second && second < 128 {
+            return Step::Read {
+                value: first % 128 + 128 * second,
+                next: at + 2,
+            };
+        }
+        let third = wide(bytes[at + 2]);
+        if 128 <= second && 0 < third && third < 128 {
+            return Step::Read {
+                value: first % 128 + 128 * (second % 128 + 128 * third),
+                next: at + 3,
+            };
+        }
+    }
+    read_any(bytes, at)
 }
 
 // The number at a place, and only then its range.
@@ -71,15 +108,55 @@ fn read_ranged(bytes: &[u8], at: usize, broken: u64, low: u64, high: u64) -> Ste
     Step::Read { value, next }
 }
 
-// As many parent numbers as count says, each below n and above the one before, as a set.
-fn read_parents(bytes: &[u8], from: usize, count: u64, n: u64) -> Step
-    requires { ⌜ (1 ≤ n) × (n ≤ countMax) × (from ≤ length (now bytes)) ⌝ }
-    ensures { λ r. ⌜ r ≡ parents count n 0 0 (now (bytes .entry)) from ⌝ }
+// Parents read so far, from the front: how many are left, the least number that the next may be, their set, and the place after them.
+pub struct Run {
+    pub left: u64,
+    pub low: u64,
+    pub set: u64,
+    pub at: usize,
+}
+
+// The parents in front that are one byte each and in order, read byte by byte: every accepted parent is.
+fn short_parents(bytes: &[u8], from: usize, count: u64, n: u64) -> Run
+    requires { ⌜ (n ≤ countMax) × (count ≤ n) × (from ≤ length (now bytes)) ⌝ }
+    ensures { λ r. ⌜ parents (r .left) n (r .low) (r .set) (now (bytes .entry)) (r .at) ≡ parents count n 0 0 (now (bytes .entry)) from ⌝ }
+    ensures { λ r. ⌜ (r .low ≤ n) × (r .set < 2 ^ r .low) × (r .at ≤ length (now (bytes .entry))) ⌝ }
 {
-    let mut left = count;
+    let all = from + count as usize;
+    let mut end = bytes.len();
+    if all < end {
+        end = all;
+    }
     let mut low: u64 = 0;
     let mut set: u64 = 0;
     let mut at = from;
+    while at < end {
+        let byte = wide(bytes[at]);
+        if byte < low || n <= byte {
+            break;
+        }
+        set = set + (1 << byte);
+        low = byte + 1;
+        at = at + 1;
+    }
+    Run {
+        left: (all - at) as u64,
+        low,
+        set,
+        at,
+    }
+}
+
+// As many parent numbers as count says, each below n and above the one before, as a set. What the short way leaves is read, or refused, here.
+fn read_parents(bytes: &[u8], from: usize, count: u64, n: u64) -> Step
+    requires { ⌜ (1 ≤ n) × (n ≤ countMax) × (count ≤ n) × (from ≤ length (now bytes)) ⌝ }
+    ensures { λ r. ⌜ r ≡ parents count n 0 0 (now (bytes .entry)) from ⌝ }
+{
+    let run = short_parents(bytes, from, count, n);
+    let mut left = run.left;
+    let mut low = run.low;
+    let mut set = run.set;
+    let mut at = run.at;
     while 0 < left {
         let step = read_ranged(bytes, at, Refusal::BAD_PARENT, low, n - 1);
         let Step::Read { value, next } = step else {

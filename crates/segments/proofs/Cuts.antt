@@ -23,7 +23,7 @@ module _ (n : ℕ) (F : ℕ → ℕ) where
   unfolding cut
   cut-none = refl
 
-  -- the next one as the code finds it, given the latest finish
+  -- the next one, by the latest finish
   pub cut-more : (j : ℕ) → cut n F (suc j) ≡ nextTo n F (latest n F) (cut n F j)
   unfolding cut next
   cut-more j = refl

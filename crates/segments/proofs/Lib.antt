@@ -8,5 +8,6 @@ pub mod Diagram
 pub mod Cutting
 pub mod Shares
 pub mod Words
+pub mod Along
 pub mod Walk
 mod Worked

@@ -1,29 +1,25 @@
 -- The next cut: the fold keeps the nearest finish above t met so far, so it lies above t, at or before each such finish, and is one of them or P.
 use mathlib.Core.Path.{_≡_, refl, _∙_}
 use mathlib.Core.Logic.{_⊎_, inl, inr, ⊎-elim}
-use Prim.Native.Nat.{ℕ, zero, suc, _+_, _≤_, _<_, min}
+use Prim.Native.Nat.{ℕ, zero, suc, _≤_, _<_, min}
 use native.Mathlib.Nat.{not-suc-le-zero, le-of-suc-le-suc, eq-or-lt-of-le, le-refl}
-use native.Mathlib.Numerals.{add-one}
 use native.Mathlib.Omega.{arith}
 use borrow.Author.Tests.{lt-ltb, le-ltb}
 use Rattle.plain.proofs.Lists.{lt-or-ge}
 use Rattle.segments.specs.Cut.{nextTo}
 
 module _ (F : ℕ → ℕ) (P t : ℕ) where
-  -- no node yet, and one node more as a loop's counter has it
-  pub next-none : nextTo 0 F P t ≡ P
+  -- no node yet
+  next-none : nextTo 0 F P t ≡ P
   unfolding nextTo
   next-none = refl
 
-  pub next-more : (m : ℕ) → nextTo (m + 1) F P t ≡ nextTo (suc m) F P t
-  next-more m = rw add-one
-
   -- a node whose finish lies above t, and one whose finish does not
-  pub next-take : (m : ℕ) → t < F m → nextTo (suc m) F P t ≡ min (F m) (nextTo m F P t)
+  next-take : (m : ℕ) → t < F m → nextTo (suc m) F P t ≡ min (F m) (nextTo m F P t)
   unfolding nextTo
   next-take m h = simp (lt-ltb t (F m) h)
 
-  pub next-pass : (m : ℕ) → F m ≤ t → nextTo (suc m) F P t ≡ nextTo m F P t
+  next-pass : (m : ℕ) → F m ≤ t → nextTo (suc m) F P t ≡ nextTo m F P t
   unfolding nextTo
   next-pass m h = simp (le-ltb t (F m) h)
 

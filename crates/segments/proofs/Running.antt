@@ -1,24 +1,25 @@
 -- Who runs in a segment: a node's digit in the set is its test, so the ones are the nodes that run; and no node finishes inside a segment,
--- so those that run on from its begin are those that run through all of it.
-use mathlib.Core.Path.{_≡_, refl, sym, ap, _∙_}
+-- so those that run on from its begin, having begun and not ended by then, are those that run through all of it.
+use mathlib.Core.Path.{_≡_, refl, sym, ap, ap₂, _∙_}
 use mathlib.Core.Logic.{_⊎_, inl, inr, ⊎-elim}
 use mathlib.Core.Bool.{Bool, _&&_}
-use Prim.Native.Nat.{ℕ, suc, _^_, _≤_, _<_, suc-le-suc}
+use Prim.Native.Nat.{ℕ, suc, _-_, _^_, _≤_, _<_, suc-le-suc, min}
 use native.Mathlib.Omega.{arith}
 use lib.Dec.{leb}
+use lib.Bits.{bitAnd}
 use borrow.Author.Tests.{le-leb, lt-leb}
 use Rattle.plain.specs.Pick.{one, upTo}
 use Rattle.plain.specs.Sums.{sumTo}
 use Rattle.plain.proofs.Lists.{lt-or-ge}
 use Rattle.plain.proofs.Sums.{upTo-is, sum-mono, sum-ones}
 use Rattle.sets.specs.Member.{bit, Member}
-use Rattle.sets.proofs.Bits.{bit-zero, not-mem}
+use Rattle.sets.proofs.Bits.{bit-zero, bit-and, not-mem}
 use Rattle.sets.proofs.Sizes.{size-full, size-less, size-none}
 use Rattle.sets.proofs.Rule.{bit-past, bit-set, set-lt, Collected}
 use Rattle.segments.specs.Cut.{cut, segments}
 use Rattle.segments.specs.Running.{runs, runningIn, runningFrom, running, threads}
-use Rattle.segments.proofs.Flags.{upTo-yes, upTo-no}
-use Rattle.segments.proofs.Sets.{set-same, collected-set, size-set}
+use Rattle.segments.proofs.Flags.{upTo-yes, upTo-no, upTo-flag}
+use Rattle.segments.proofs.Sets.{bit-not, set-same, collected-set, set-word, size-set}
 use Rattle.segments.proofs.Cuts.{gap}
 use Rattle.segments.proofs.Segments.{segment-up}
 
@@ -54,6 +55,13 @@ runs-flag s f a b = ⊎-elim
     (λ (h : a < s). let e = runs-late f b h in omega arith)
     (λ (h : s ≤ a). let e = runs-started f b h in let u = upTo-is b f in omega arith)
     (lt-or-ge a s)
+
+-- on from t: started by t, and not finished by t
+runs-left : (s f t : ℕ) → runs s f t (suc t) ≡ min (upTo s t) (1 - upTo f t)
+runs-left s f t = ⊎-elim
+    (λ (h : t < s). runs-late f (suc t) h ∙ (let y = upTo-no h in omega arith))
+    (λ (h : s ≤ t). runs-started f (suc t) h ∙ (let y = upTo-yes h in let z = upTo-is f t in let u = upTo-is (suc t) f in omega arith))
+    (lt-or-ge t s)
 
 module _ (n : ℕ) (S F : ℕ → ℕ) where
   -- the node's test in segment j
@@ -119,7 +127,17 @@ module _ (n : ℕ) (S F : ℕ → ℕ) where
           (λ (h : s ≤ a). runs-started f (suc a) h ∙ end u g ∙ sym (runs-started f b h))
           (lt-or-ge a s)
 
--- the set as a loop over the nodes collects it
-pub collected-running : (n : ℕ) (S F : ℕ → ℕ) (a b : ℕ) {s : ℕ} → Collected (λ v. runs (S v) (F v) a b) n s → s ≡ runningIn n S F a b
+-- who has begun by t and not ended by t runs on from t
+pub running-left : {n : ℕ} (S F : ℕ → ℕ) (t : ℕ) {begun ended : ℕ} → n ≤ 64 → Collected (λ v. upTo (S v) t) n begun → Collected (λ v. upTo (F v) t) n ended
+    → bitAnd begun (2 ^ 64 - 1 - ended) ≡ runningFrom n S F t
 unfolding runningIn
-collected-running n S F a b c = collected-set (λ v. runs (S v) (F v) a b) (λ v. runs-flag (S v) (F v) a b) n c
+running-left {n} S F t {begun} {ended} few b e = collected-set (λ v. runs (S v) (F v) t (suc t)) (λ v. runs-flag (S v) (F v) t (suc t)) n (record {
+  done = λ v h. both v ∙ ap₂ min (b .done v h) (bit-not 64 v ended (omega arith) word ∙ ap (λ (x : ℕ). 1 - x) (e .done v h)) ∙ sym (runs-left (S v) (F v) t);
+  rest = λ v h. let x = both v in let z = b .rest v h in omega arith;
+})
+  where
+    word : ended < 2 ^ 64
+    word = rw (collected-set (λ v. upTo (F v) t) (λ v. upTo-flag (F v) t) n e) (set-word (λ v. upTo (F v) t) (λ v. upTo-flag (F v) t) n few)
+
+    both : (v : ℕ) → bit v (bitAnd begun (2 ^ 64 - 1 - ended)) ≡ min (bit v begun) (bit v (2 ^ 64 - 1 - ended))
+    both v = bit-and v begun (2 ^ 64 - 1 - ended)

@@ -4,4 +4,5 @@ pub mod Diagram
 pub mod Cutting
 pub mod Share
 pub mod Words
+pub mod Along
 pub mod Room

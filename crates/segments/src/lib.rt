@@ -3,66 +3,68 @@ ghost use mathlib.Core.Path.{_≡_};
 ghost use Prim.Native.Nat.{_≤_};
 ghost use lib.ListN.{length};
 ghost use Rattle.plain.specs.At.{at};
-ghost use Rattle.segments.specs.Cut.{nextTo, segments};
-ghost use Rattle.segments.specs.Running.{runningFrom};
+ghost use Rattle.lineups.specs.LinedUp.{LinedUp};
+ghost use Rattle.segments.specs.Cut.{segments};
 ghost use Rattle.segments.specs.Words.{CutWords};
+ghost use Rattle.segments.specs.Along.{Behind, ReachedBy};
 ghost use Rattle.segments.specs.Room.{CutIn};
 
-// A segment as the walk meets it: the cut where it ends, and the set of the nodes running in it.
-pub struct Segment {
-    pub to: u64,
-    pub running: u64,
+// How far a walk along a lineup has come: the number of entries behind it, and the set of their nodes.
+pub struct Reach {
+    pub next: usize,
+    pub set: u64,
 }
 
-// The segment that begins at the cut t, by one pass over the nodes: it ends at the least finish above t, and who runs on from t runs in it.
-pub fn next_segment<'a>(
-    starts: &'a [u64; 64],
-    finishes: &'a [u64; 64],
+// The walk taken on past every node whose time is t or earlier.
+fn reached<'a>(
+    lineup: &'a [usize; 64],
+    times: &'a [u64; 64],
     n: usize,
-    path: u64,
+    from: Reach,
     t: u64,
-) -> Segment
-    requires { ⌜ n ≤ 64 ⌝ }
-    ensures { λ r. ⌜ r .to ≡ nextTo n (at (now (finishes .entry))) path t ⌝ }
-    ensures { λ r. ⌜ r .running ≡ runningFrom n (at (now (starts .entry))) (at (now (finishes .entry))) t ⌝ }
+) -> Reach
+    requires { ⌜ (n ≤ 64) × LinedUp n (at (now times)) (now lineup) × Behind n (at (now times)) (now lineup) t (from .next) (from .set) ⌝ }
+    ensures { λ r. ⌜ ReachedBy n (at (now (times .entry))) (now (lineup .entry)) t (r .next) (r .set) ⌝ }
 {
-    let mut to = path;
-    let mut running: u64 = 0;
-    let mut v: usize = 0;
-    while v < n {
-        let start = starts[v];
-        let finish = finishes[v];
-        if t < finish && finish < to {
-            to = finish;
+    let mut next = from.next;
+    let mut set = from.set;
+    while next < n {
+        let v = lineup[next];
+        if t < times[v] {
+            return Reach { next, set };
         }
-        if start <= t && t < finish {
-            running = sets::with_member(running, v);
-        }
-        v += 1;
+        set = sets::with_member(set, v);
+        next += 1;
     }
-    Segment { to, running }
+    Reach { next, set }
 }
 
-// Writes threads and length of each segment to words 3 + 3j and 4 + 3j, and gives the number of segments. No cut but the present one is kept.
+// Writes threads and length of each segment to words 3 + 3j and 4 + 3j, and gives the number of segments. From the cut t those nodes run on that start by t and do not finish by t, and the next finish is the next cut.
 pub fn cut_words<'a>(
     words: &mut [u64],
     starts: &'a [u64; 64],
     finishes: &'a [u64; 64],
+    starting: &'a [usize; 64],
+    finishing: &'a [usize; 64],
     n: usize,
-    path: u64,
 ) -> usize
-    requires { ⌜ CutIn n (at (now finishes)) path (length (now words)) ⌝ }
+    requires { ⌜ CutIn n (length (now words)) × LinedUp n (at (now starts)) (now starting) × LinedUp n (at (now finishes)) (now finishing) ⌝ }
     ensures { λ r. ⌜ r ≡ segments n (at (now (finishes .entry))) ⌝ }
     ensures { λ r. ⌜ CutWords n (at (now (starts .entry))) (at (now (finishes .entry))) r (now (words .entry)) (now (words .exit)) ⌝ }
 {
     let mut t: u64 = 0;
     let mut j: usize = 0;
-    while t < path {
-        let segment = next_segment(starts, finishes, n, path, t);
-        let to = segment.to;
+    let mut begun = Reach { next: 0, set: 0 };
+    let mut ended = reached(finishing, finishes, n, Reach { next: 0, set: 0 }, 0);
+    while ended.next < n {
+        let next = ended.next;
+        let last = finishing[next];
+        let to = finishes[last];
+        begun = reached(starting, starts, n, begun, t);
         let k = 3 + 3 * j;
-        words[k] = sets::size_of(segment.running);
+        words[k] = sets::size_of(begun.set & !ended.set);
         words[k + 1] = to - t;
+        ended = reached(finishing, finishes, n, ended, to);
         t = to;
         j += 1;
     }

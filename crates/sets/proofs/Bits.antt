@@ -1,18 +1,18 @@
 -- Digits of a word: halving a word drops its lowest digit, so each law about one digit is a law about the lowest one, and the rest by induction.
-use mathlib.Core.Path.{_≡_, refl, sym, ap, ap₂, _∙_}
+use mathlib.Core.Path.{_≡_, refl, sym, ap, _∙_}
 use mathlib.Core.Logic.{_⊎_, inl, inr, ⊎-elim}
 use mathlib.Core.Bool.{Bool, true, false}
 use Prim.Native.Nat.{ℕ, zero, suc, _+_, _-_, _*_, _/_, _%_, _^_, _≤_, _<_, zero-le, suc-le-suc, min, max}
 use native.Mathlib.Nat.{pow-suc, div-div-eq-div-mul, mul-comm, le-of-suc-le-suc, not-suc-le-zero, div-one, one-mul, zero-add, le-refl, eq-or-lt-of-le}
 use native.Mathlib.Omega.{arith}
 use native.Mathlib.Decide.{ℕ-discrete}
-use lib.Bits.{bitAnd, bitOr, and-step, or-step}
+use lib.Bits.{bitAnd, bitOr, and-step, or-step, and-self}
 use lib.Pow.{shl-exact}
 use lib.Arith.{bin-ind}
 use lib.Dec.{eqb, lit<}
 use borrow.Author.Tests.{eqb-true, eqb-false}
 use Rattle.plain.specs.Pick.{pick}
-use Rattle.sets.specs.Member.{bit, Member, isMember, Subset, withMember}
+use Rattle.sets.specs.Member.{bit, Member, isMember, withMember}
 
 pub bit-le : (k s : ℕ) → bit k s ≤ 1
 unfolding bit
@@ -104,6 +104,21 @@ bit-out-other (suc p) (suc k) s n h = ap (bit k) half ∙ bit-out-other p k (s /
   where
     half : (s - 2 ^ suc p) / 2 ≡ s / 2 - 2 ^ p
     half = rw (pow-suc 2 p) (omega (arith, mem-le p (s / 2) h))
+
+-- `s & (s - 1)` takes the lowest member out: an odd word loses its last digit, and halving leads any other to its half
+pub low-clear : (p s : ℕ) → Member p s → ((k : ℕ) → k < p → bit k s ≡ 0) → bitAnd s (s - 1) ≡ s - 2 ^ p
+unfolding bit
+low-clear zero s m low =
+    let a = and-step s (s - 1) in
+    let b : (s - 1) / 2 ≡ s / 2 = omega arith in
+    let c = ap (bitAnd (s / 2)) b ∙ and-self (s / 2) in
+    omega arith
+low-clear (suc p) s m low =
+    let a = and-step s (s - 1) in
+    let e = low 0 (suc-le-suc zero-le) in
+    let b : (s - 1) / 2 ≡ s / 2 - 1 = omega arith in
+    let c = ap (bitAnd (s / 2)) b ∙ low-clear p (s / 2) m (λ k h. low (suc k) (suc-le-suc h)) in
+    rw (pow-suc 2 p) (omega arith)
 
 pub bit-pow-other : (p k : ℕ) → (k ≡ p → ⊥) → bit k (2 ^ p) ≡ 0
 bit-pow-other p k n = ap (bit k) (sym (zero-add (2 ^ p))) ∙ bit-put-other p k 0 n (bit-zero p) ∙ bit-zero k

@@ -1,23 +1,19 @@
 -- The walk by trailing zeros: the number of trailing zeros is the lowest member, so taking it out and going on meets the members in their order.
-use mathlib.Core.Path.{_≡_, refl, sym, ap, ap₂, _∙_}
-use mathlib.Core.Logic.{_⊎_, inl, inr, ⊎-elim}
-use mathlib.Core.List.{List, [], _∷_, _++_, List·Memᴰ, List·Memᴰ·head, List·Memᴰ·not-nil, List·Memᴰ·append-cases, List·Memᴰ·eq-of-singleton, Memᴰ·append-left, Memᴰ·append-right}
-use Prim.Native.Nat.{ℕ, zero, suc, _+_, _-_, _*_, _/_, _%_, _^_, _≤_, _<_, zero-le, suc-le-suc, max}
+use mathlib.Core.Path.{_≡_, refl, sym, ap, _∙_}
+use mathlib.Core.Logic.{⊎-elim}
+use mathlib.Core.List.{[], _∷_, _++_, List·Memᴰ, List·Memᴰ·head, List·Memᴰ·not-nil, List·Memᴰ·append-cases, List·Memᴰ·eq-of-singleton, Memᴰ·append-left, Memᴰ·append-right}
+use Prim.Native.Nat.{ℕ, zero, suc, _-_, _*_, _/_, _%_, _^_, _<_, zero-le, suc-le-suc, max}
 use native.Mathlib.Nat.{pow-suc, le-of-suc-le-suc, not-suc-le-zero, eq-or-lt-of-le, le-refl}
 use native.Mathlib.Omega.{arith}
+use lib.Bits.{bitAnd, and-le-r}
 use lib.Count.{trailingZeros, under}
-use lib.Pow.{pow-pos}
 use Rattle.sets.specs.Member.{bit, Member}
 use Rattle.sets.specs.Size.{only, members}
 use Rattle.sets.specs.Greatest.{greatest}
-use Rattle.sets.proofs.Bits.{bit-le, bit-out-same, bit-out-other, mem-le, not-mem, one-shl}
+use Rattle.sets.proofs.Bits.{bit-le, bit-out-same, bit-out-other, not-mem, low-clear}
 use Rattle.sets.proofs.Greatest.{greatest-out}
 
 -- the lowest member
-under-cases : (r t : ℕ) → ((r ≡ 0) × (under r t ≡ suc t)) ⊎ ((0 < r) × (under r t ≡ 0))
-under-cases zero t = inl (refl, refl)
-under-cases (suc r) t = inr (suc-le-suc zero-le, refl)
-
 pub lowest-mem : (d s : ℕ) → 0 < s → s < 2 ^ d → Member (trailingZeros d s) s
 unfolding bit trailingZeros
 lowest-mem zero s h k = absurd (lt0 h k)
@@ -59,31 +55,27 @@ lowest-lt (suc d) s h k = go (s % 2) refl (lowest-lt d (s / 2))
     go zero e ih = let k3 = k2 in suc-le-suc (ih (omega arith) (omega arith))
     go (suc r) e ih = suc-le-suc zero-le
 
--- what a walk by trailing zeros needs of a word that is not 0: `p` is its lowest member, and `o` is `1 << p`
-pub record Walk (s p o : ℕ) : Type 0 where
+-- what a walk by trailing zeros needs of a word that is not 0: `p` is its lowest member, and `r` is `s & (s - 1)`
+pub record Walk (s p r : ℕ) : Type 0 where
   pub lt : p < 64
   pub mem : Member p s
   pub low : (k : ℕ) → k < p → bit k s ≡ 0
-  pub one : o ≡ 2 ^ p
-  pub pos : 0 < o
-  pub le : o ≤ s
+  pub out : r ≡ s - 2 ^ p
+  pub less : r < s
 
-pub walk : (s : ℕ) → (s ≡ 0 → ⊥) → s < 2 ^ 64 → Walk s (trailingZeros 64 s) (1 * 2 ^ trailingZeros 64 s % 2 ^ 64)
+pub walk : (s : ℕ) → (s ≡ 0 → ⊥) → s < 2 ^ 64 → Walk s (trailingZeros 64 s) (bitAnd s (s - 1))
 walk s n h =
     let m = lowest-mem 64 s (omega arith) h in
-    let l = lowest-lt 64 s (omega arith) h in
-    let e = one-shl (trailingZeros 64 s) l in
     record {
-      lt = l;
+      lt = lowest-lt 64 s (omega arith) h;
       mem = m;
       low = lowest-none 64 s;
-      one = e;
-      pos = rw e (pow-pos (trailingZeros 64 s));
-      le = rw e (mem-le (trailingZeros 64 s) s m);
+      out = low-clear (trailingZeros 64 s) s m (lowest-none 64 s);
+      less = omega (arith, and-le-r s (s - 1));
     }
 
-pub walk-greatest : {s p o : ℕ} (f : ℕ → ℕ) → Walk s p o → greatest 64 s f ≡ max (f p) (greatest 64 (s - o) f)
-walk-greatest {s} {p} {o} f w = rw (w .one) (greatest-out 64 s f p (w .lt) (w .mem))
+pub walk-greatest : {s p r : ℕ} (f : ℕ → ℕ) → Walk s p r → greatest 64 s f ≡ max (f p) (greatest 64 r f)
+walk-greatest {s} {p} f w = rw (w .out) (greatest-out 64 s f p (w .lt) (w .mem))
 
 -- the walk by trailing zeros goes through the members in their order
 members-none : (d s : ℕ) → ((k : ℕ) → k < d → bit k s ≡ 0) → members d s ≡ []

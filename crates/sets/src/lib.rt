@@ -50,7 +50,7 @@ pub fn greatest_of(s: u64, values: &[u64; 64]) -> u64
         if best < value {
             best = value;
         }
-        left = left - (1u64 << p);
+        left = left & (left - 1);
     }
     best
 }

@@ -6,6 +6,7 @@ pub mod Fair
 pub mod Millionths
 pub mod Edges
 pub mod Walks
+pub mod Filling
 pub mod Triples
 pub mod Numbering
 pub mod Bounds

@@ -9,7 +9,7 @@ use Rattle.plain.specs.Sums.{sumTo}
 use Rattle.plain.proofs.Lists.{lt-or-ge}
 use Rattle.plain.proofs.Sums.{upTo-is, sum-mono, sum-under}
 
--- a term whose test holds, one whose test fails, and either
+-- a term whose test holds, one whose test fails, either, and one with a later bound
 pub upTo-yes : (a b x : ℕ) → a ≤ b → upTo a b * x ≡ x
 upTo-yes a b x h = ap (λ (n : ℕ). n * x) (let u = upTo-is a b in the-one u) ∙ omega arith
   where
@@ -25,8 +25,8 @@ upTo-no a b x h = ap (λ (n : ℕ). n * x) (let u = upTo-is a b in none u) ∙ o
 pub upTo-le : (a b x : ℕ) → upTo a b * x ≤ x
 upTo-le a b x = ⊎-elim (λ (h : b < a). omega (arith, upTo-no a b x h)) (λ (h : a ≤ b). omega (arith, upTo-yes a b x h)) (lt-or-ge b a)
 
-pub upTo-part : {y : ℕ} (a b x : ℕ) → y ≡ upTo a b * x → y ≤ x
-upTo-part a b x e = omega (arith, upTo-le a b x)
+pub upTo-later : (a b c x : ℕ) → b ≤ c → upTo a b * x ≤ upTo a c * x
+upTo-later a b c x l = ⊎-elim (λ (h : b < a). omega (arith, upTo-no a b x h)) (λ (h : a ≤ b). omega (arith, upTo-le a b x, upTo-yes a c x (omega arith))) (lt-or-ge b a)
 
 -- terms that are 0 from j on
 pub sum-stops : (f : ℕ → ℕ) (j s : ℕ) → j ≤ s → ((k : ℕ) → j ≤ k → f k ≡ 0) → sumTo s f ≡ sumTo j f

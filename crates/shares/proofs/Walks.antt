@@ -1,44 +1,52 @@
--- A walk over the segments that recovers the edges and adds up what one node gets: each turn adds the terms of the two definitions, and
--- past the node's finish no segment has a term.
-use mathlib.Core.Path.{_≡_, sym}
+-- A walk along the segments: edges never fall back, so the segments that end by a time are those behind the first that ends after it; their
+-- numerators summed are the time stretched. A later time has no fewer behind it, so the walk goes on from where it stands.
+use mathlib.Core.Path.{_≡_, sym, ap, _∙_}
+use mathlib.Core.Logic.{_⊎_, inl, inr}
 use mathlib.Core.List.{List}
-use Prim.Native.Nat.{ℕ, _+_, _*_, _≤_, _<_}
+use Prim.Native.Nat.{ℕ, _+_, _≤_, _<_}
+use native.Mathlib.Nat.{le-trans}
 use native.Mathlib.Omega.{arith}
-use Rattle.plain.specs.Pick.{upTo}
 use Rattle.plain.specs.Sums.{sumTo}
-use Rattle.shares.specs.declared.NodeShare.{NodeShare}
-use Rattle.shares.specs.Words.{lengthAt, numeratorAt, edge, deadlineIn, offsetIn, shareIn}
-use Rattle.shares.proofs.Edges.{edge-none, edge-more, edge-under, offset-none, offset-more, offset-under, offset-past, deadline-none, deadline-more, deadline-under, deadline-past}
+use Rattle.plain.proofs.Lists.{lt-or-ge}
+use Rattle.plain.proofs.Sums.{sumTo-none, sumTo-more, sum-under}
+use Rattle.shares.specs.declared.Mark.{Mark}
+use Rattle.shares.specs.Words.{lengthAt, numeratorAt, edge, stretchedIn}
+use Rattle.shares.specs.Walks.{Along, Walked}
+use Rattle.shares.proofs.Edges.{edge-none, edge-more, edge-suc, edge-under, stretched-all, stretched-past}
 
--- after j segments the walk stands at the edge t and has added up an offset and a deadline
-pub record Walked (w : List ℕ) (a b j t offset deadline : ℕ) : Type 0 where
-  pub at-edge : t ≡ edge w j
-  pub offset-so : offset ≡ offsetIn w j a
-  pub deadline-so : deadline ≡ deadlineIn w j a b
+module _ {w : List ℕ} {s t : ℕ} where
+  -- before the first segment
+  pub along-none : Along w s t (record { next = 0; edge = 0; sum = 0 })
+  along-none = record { within = omega arith; at-edge = sym (edge-none w); summed = sym (sumTo-none (numeratorAt w)); behind = omega (arith, edge-none w) }
 
-module _ {w : List ℕ} {a b : ℕ} where
-  -- before the first
-  pub walked-none : Walked w a b 0 0 0 0
-  walked-none = record { at-edge = sym (edge-none w); offset-so = sym (offset-none w a); deadline-so = sym (deadline-none w a b) }
+  -- for a later time
+  pub along-later : {u : ℕ} {m : Mark} → t ≤ u → Along w s t m → Along w s u m
+  along-later h i = record { within = i .within; at-edge = i .at-edge; summed = i .summed; behind = le-trans (i .behind) h }
 
-  -- one segment more: x is what it adds to the offset, y to the deadline, by way of z
-  pub walked-more : {j t offset deadline : ℕ} (x y z : ℕ) → Walked w a b j t offset deadline → x ≡ upTo (t + lengthAt w j) a * numeratorAt w j → z ≡ upTo (t + lengthAt w j) b * numeratorAt w j → y ≡ upTo a t * z → Walked w a b (j + 1) (t + lengthAt w j) (offset + x) (deadline + y)
-  walked-more {j} x y z i p q r =
-      record {
-        at-edge = rw (i .at-edge) (sym (edge-more w j));
-        offset-so = rw (p, i .offset-so, i .at-edge) (sym (offset-more w a j));
-        deadline-so = rw (r, q, i .deadline-so, i .at-edge) (sym (deadline-more w a b j));
-      }
+  -- one segment more, that ends by t
+  pub along-more : {m : Mark} → Along w s t m → m .next < s → m .edge + lengthAt w (m .next) ≤ t → Along w s t (record { next = m .next + 1; edge = m .edge + lengthAt w (m .next); sum = m .sum + numeratorAt w (m .next) })
+  along-more {m} i h l = record {
+    within = omega arith;
+    at-edge = rw (i .at-edge) (sym (edge-more w (m .next)));
+    summed = rw (i .summed) (sym (sumTo-more (m .next) (numeratorAt w)));
+    behind = omega (arith, edge-more w (m .next), i .at-edge);
+  }
 
-  -- past the finish, or at the last segment, the walk has all
-  pub walked-past : {j t offset deadline : ℕ} (s : ℕ) → Walked w a b j t offset deadline → a ≤ b → j ≤ s → b < t → _≡_ {A = NodeShare} (record { offset = offset; deadline = deadline }) (shareIn w s a b)
-  walked-past {j} s i le h l =
-      let l′ = rw (i .at-edge) at l in
-      rw (i .offset-so, i .deadline-so, offset-past w a j s h (omega arith), deadline-past w a b j s h (omega arith))
+  -- what it adds fits where the sums over all segments fit
+  pub along-fits : {m : Mark} → Along w s t m → m .next < s → (m .edge + lengthAt w (m .next) ≤ edge w s) × (m .sum + numeratorAt w (m .next) ≤ sumTo s (numeratorAt w))
+  along-fits {m} i h = rw (i .at-edge, i .summed) (edge-under w (m .next) s h, sum-under (numeratorAt w) (m .next) s h)
 
-  pub walked-all : {j t offset deadline : ℕ} (s : ℕ) → Walked w a b j t offset deadline → j ≡ s → _≡_ {A = NodeShare} (record { offset = offset; deadline = deadline }) (shareIn w s a b)
-  walked-all s i e = rw (← e, i .offset-so, i .deadline-so)
+  -- the walk is done at the last segment, or where the next one ends after t
+  pub walked-all : {m : Mark} → Along w s t m → s ≤ m .next → Walked w s t m
+  walked-all i h = record { along = i; ahead = λ l. absurd (omega arith) }
 
-  -- what one turn adds fits where the sums over all segments fit
-  pub walked-fits : {j t offset deadline : ℕ} (s : ℕ) → Walked w a b j t offset deadline → j < s → (t + lengthAt w j ≤ edge w s) × (offset + numeratorAt w j ≤ sumTo s (numeratorAt w)) × (deadline + numeratorAt w j ≤ sumTo s (numeratorAt w))
-  walked-fits {j} s i h = rw (i .at-edge, i .offset-so, i .deadline-so) (edge-under w j s h, offset-under w a j s h, deadline-under w a b j s h)
+  pub walked-here : {m : Mark} → Along w s t m → t < m .edge + lengthAt w (m .next) → Walked w s t m
+  walked-here {m} i h = record { along = i; ahead = λ l. omega (arith, edge-suc w (m .next), i .at-edge) }
+
+  -- then it has the time stretched
+  pub walked-is : {m : Mark} → Walked w s t m → m .sum ≡ stretchedIn w s t
+  walked-is {m} i = i .along .summed ∙ sym (rest (lt-or-ge (m .next) s) ∙ stretched-all w t (m .next) (i .along .behind))
+    where
+      rest : (m .next < s) ⊎ (s ≤ m .next) → stretchedIn w s t ≡ stretchedIn w (m .next) t
+      rest (inl h) = stretched-past w t (m .next) s (i .along .within) (i .ahead h)
+      rest (inr h) = let l = i .along .within in ap (λ (j : ℕ). stretchedIn w j t) (omega arith)

@@ -2,14 +2,14 @@
 use mathlib.Core.Path.{_≡_, refl}
 use mathlib.Core.Bool.{true, false}
 use mathlib.Core.List.{List, [], _∷_, _++_}
-use Prim.Native.Nat.{ℕ}
+use Prim.Native.Nat.{ℕ, _+_}
 use Rattle.plain.specs.At.{at, tab}
 use Rattle.plain.specs.Pick.{upTo}
 use Rattle.plain.specs.Sums.{sumTo}
 use Rattle.shares.specs.Heavy.{isHeavy, heavies, heavyWork, lightLength}
 use Rattle.shares.specs.Deal.{deal, numerator, numeratorOf}
 use Rattle.shares.specs.Density.{millionths}
-use Rattle.shares.specs.Words.{edge, deadlineIn, offsetIn}
+use Rattle.shares.specs.Words.{edge, stretchedIn}
 use Rattle.shares.specs.Triples.{triples}
 
 -- a task by period, work, path and its segments' threads and lengths: its Q and its numerators
@@ -34,9 +34,9 @@ four-segments : (isHeavy 4 5 3 1 ≡ false) × (isHeavy 4 5 3 3 ≡ true) × (de
 unfolding tab deal numerator isHeavy heavies heavyWork lightLength sumTo
 four-segments = (refl, refl, refl)
 
-four-nodes : (offsetIn four 2 0 ≡ 0) × (deadlineIn four 2 0 2 ≡ 6) × (offsetIn four 2 2 ≡ 6) × (deadlineIn four 2 2 3 ≡ 18)
-unfolding four edge offsetIn deadlineIn sumTo upTo
-four-nodes = (refl, refl, refl, refl)
+four-nodes : (stretchedIn four 2 0 ≡ 0) × (stretchedIn four 2 2 ≡ 6) × (stretchedIn four 2 3 ≡ 6 + 18)
+unfolding four edge stretchedIn sumTo upTo
+four-nodes = (refl, refl, refl)
 
 four-words : (6 ∷ 2 ∷ 4 ∷ []) ++ triples (at (1 ∷ 3 ∷ [])) (at (2 ∷ 1 ∷ [])) (numeratorOf 4 5 3 2 (at (1 ∷ 3 ∷ [])) (at (2 ∷ 1 ∷ []))) 2 ≡ four
 unfolding four triples deal numerator isHeavy heavies heavyWork lightLength sumTo
@@ -54,8 +54,8 @@ listing-segments : dealtOut 6 5 3 3 (2 ∷ 2 ∷ 1 ∷ []) (1 ∷ 1 ∷ 1 ∷ []
 unfolding tab deal numerator isHeavy heavies heavyWork lightLength sumTo
 listing-segments = refl
 
-listing-nodes : (deadlineIn listing 3 0 3 ≡ 30) × (deadlineIn listing 3 0 1 ≡ 12) × (offsetIn listing 3 1 ≡ 12) × (deadlineIn listing 3 1 2 ≡ 12)
-unfolding listing edge offsetIn deadlineIn sumTo upTo
+listing-nodes : (stretchedIn listing 3 0 ≡ 0) × (stretchedIn listing 3 1 ≡ 12) × (stretchedIn listing 3 2 ≡ 12 + 12) × (stretchedIn listing 3 3 ≡ 30)
+unfolding listing edge stretchedIn sumTo upTo
 listing-nodes = (refl, refl, refl, refl)
 
 listing-densities : (millionths 3 5 30 ≡ 500000) × (millionths 1 5 12 ≡ 416667)

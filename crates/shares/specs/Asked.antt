@@ -1,6 +1,6 @@
 -- What the functions ask of their callers, so that every sum and product fits.
 use mathlib.Core.List.{List}
-use Prim.Native.Nat.{ℕ, _+_, _*_, _^_, _≤_, _<_}
+use Prim.Native.Nat.{ℕ, _+_, _*_, _-_, _^_, _≤_, _<_}
 use lib.ListN.{length}
 use Rattle.plain.specs.At.{at}
 use Rattle.plain.specs.Sums.{sumTo}
@@ -56,19 +56,9 @@ pub record SumsIn (w : List ℕ) (s : ℕ) : Type 0 where
   pub lengths : edge w s < 2 ^ 64
   pub numerators : sumTo s (numeratorAt w) < 2 ^ 64
 
--- what one node gets, that runs from a to b
-pub record ShareIn (w : List ℕ) (s a b : ℕ) : Type 0 where
-  pub sums : SumsIn w s
-  pub runs : a ≤ b
-
--- what each of n nodes gets
-pub record SharesIn (w : List ℕ) (s : ℕ) (starts finishes : List ℕ) (n : ℕ) : Type 0 where
-  pub sums : SumsIn w s
-  pub count : n ≤ countMax
-  pub runs : (v : ℕ) → v < n → at starts v ≤ at finishes v
-
--- the node part of a plan
-pub record NodesIn (deadlines executions : List ℕ) (n over words : ℕ) : Type 0 where
+-- the node part of a plan: no node ends, in stretched time, before its offset
+pub record NodesIn (offsets ends executions : List ℕ) (n over words : ℕ) : Type 0 where
   pub count : n ≤ countMax
   pub room : 3 * n ≤ words
-  pub each : (v : ℕ) → v < n → DensityIn (at executions v) over (at deadlines v)
+  pub runs : (v : ℕ) → v < n → at offsets v ≤ at ends v
+  pub each : (v : ℕ) → v < n → DensityIn (at executions v) over (at ends v - at offsets v)

@@ -2,6 +2,7 @@ pub mod Heavy
 pub mod Deal
 pub mod Density
 pub mod Words
+pub mod Walks
 pub mod Triples
 pub mod Written
 pub mod Cutting

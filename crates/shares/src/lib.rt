@@ -1,17 +1,19 @@
 // Shares of the period: heavy and light segments, Q, deadline numerators, densities.
 ghost use mathlib.Core.Path.{_≡_};
 ghost use mathlib.Core.List.{_++_};
-ghost use Prim.Native.Nat.{_*_};
+ghost use Prim.Native.Nat.{ℕ, _*_, _-_, _≤_, _<_};
 ghost use lib.ListN.{length, drop};
 ghost use Rattle.plain.specs.At.{at};
-ghost use Rattle.plain.specs.Pick.{upTo};
+ghost use Rattle.tables.specs.Limits.{countMax};
+ghost use Rattle.lineups.specs.LinedUp.{LinedUp};
 ghost use Rattle.shares.specs.Heavy.{isHeavy, kinds};
 ghost use Rattle.shares.specs.Deal.{deal, numerator};
 ghost use Rattle.shares.specs.Density.{millionths};
-ghost use Rattle.shares.specs.Words.{threadsAt, lengthAt, shareIn};
+ghost use Rattle.shares.specs.Words.{threadsAt, lengthAt, stretchedIn};
 ghost use Rattle.shares.specs.Triples.{triples};
-ghost use Rattle.shares.specs.Written.{Numbered, SharesOf};
-ghost use Rattle.shares.specs.Asked.{DensityIn, HeavyIn, NumeratorIn, DealIn, FillIn, ShareIn, SharesIn, NodesIn};
+ghost use Rattle.shares.specs.Written.{Numbered};
+ghost use Rattle.shares.specs.Walks.{Along, Walked};
+ghost use Rattle.shares.specs.Asked.{DensityIn, HeavyIn, NumeratorIn, DealIn, FillIn, SumsIn, NodesIn};
 
 // How the period is dealt out: Q, what a heavy segment gets per unit of work, what a light one gets per unit of length.
 pub struct Deal {
@@ -27,16 +29,11 @@ pub struct Kinds {
     pub length: u64,
 }
 
-// What one node gets, as numerators over Q.
-pub struct NodeShare {
-    pub offset: u64,
-    pub deadline: u64,
-}
-
-// What each node gets; 0 past the node count.
-pub struct Shares {
-    pub offsets: [u64; 64],
-    pub deadlines: [u64; 64],
+// Where a walk along the segments stands: how many lie behind it, where the last of these ends, and the sum of their numerators.
+pub struct Mark {
+    pub next: usize,
+    pub edge: u64,
+    pub sum: u64,
 }
 
 // One, in millionths.
@@ -138,72 +135,69 @@ pub fn fill_numerators(words: &mut [u64], s: usize, d: Deal, period: u64, work: 
     }
 }
 
-// The value where a is at most b, else 0.
-fn where_at_most(a: u64, b: u64, value: u64) -> u64
-    ensures { λ r. ⌜ r ≡ upTo a b * value ⌝ }
+// The walk taken on past every segment that ends by t. The lengths are summed to recover the cuts.
+fn walked_to(words: &[u64], s: usize, from: Mark, t: u64) -> Mark
+    requires { ⌜ SumsIn (now words) s × Along (now words) s t from ⌝ }
+    ensures { λ r. ⌜ Walked (now (words .entry)) s t r ⌝ }
 {
-    if a <= b { value } else { 0 }
-}
-
-// What a node that runs from start to finish gets. The lengths are summed to recover the cuts; past finish no segment counts.
-pub fn node_share(words: &[u64], s: usize, start: u64, finish: u64) -> NodeShare
-    requires { ⌜ ShareIn (now words) s start finish ⌝ }
-    ensures { λ r. ⌜ r ≡ shareIn (now (words .entry)) s start finish ⌝ }
-{
-    let mut offset: u64 = 0;
-    let mut deadline: u64 = 0;
-    let mut edge: u64 = 0;
-    let mut j: usize = 0;
-    while j < s && edge <= finish {
-        let next = edge + words[4 + 3 * j];
-        let numerator = words[5 + 3 * j];
-        offset += where_at_most(next, start, numerator);
-        deadline += where_at_most(start, edge, where_at_most(next, finish, numerator));
-        edge = next;
-        j += 1;
+    let mut next = from.next;
+    let mut edge = from.edge;
+    let mut sum = from.sum;
+    while next < s {
+        let end = edge + words[4 + 3 * next];
+        if t < end {
+            return Mark { next, edge, sum };
+        }
+        sum += words[5 + 3 * next];
+        edge = end;
+        next += 1;
     }
-    NodeShare { offset, deadline }
+    Mark { next, edge, sum }
 }
 
-// What each of n nodes gets.
-pub fn shares_of<'a>(
+// D of each node's time: the numerators of the segments that end by it. The lineup has the times ascending, so one walk serves all.
+pub fn stretched<'a>(
     words: &[u64],
     s: usize,
-    starts: &'a [u64; 64],
-    finishes: &'a [u64; 64],
+    times: &'a [u64; 64],
+    lineup: &'a [usize; 64],
     n: usize,
-) -> Shares
-    requires { ⌜ SharesIn (now words) s (now starts) (now finishes) n ⌝ }
-    ensures { λ r. ⌜ SharesOf (now (words .entry)) s (at (now (starts .entry))) (at (now (finishes .entry))) n r ⌝ }
+) -> [u64; 64]
+    requires { ⌜ SumsIn (now words) s × (n ≤ countMax) × LinedUp n (at (now times)) (now lineup) ⌝ }
+    ensures { λ r. ⌜ ((v : ℕ) → v < n → at r v ≡ stretchedIn (now (words .entry)) s (at (now (times .entry)) v)) ⌝ }
 {
-    let mut offsets: [u64; 64] = [0; 64];
-    let mut deadlines: [u64; 64] = [0; 64];
-    let mut v: usize = 0;
-    while v < n {
-        let share = node_share(words, s, starts[v], finishes[v]);
-        offsets[v] = share.offset;
-        deadlines[v] = share.deadline;
-        v += 1;
+    let mut result = [0u64; 64];
+    let mut mark = Mark {
+        next: 0,
+        edge: 0,
+        sum: 0,
+    };
+    let mut i: usize = 0;
+    while i < n {
+        let v = lineup[i];
+        mark = walked_to(words, s, mark, times[v]);
+        result[v] = mark.sum;
+        i += 1;
     }
-    Shares { offsets, deadlines }
+    result
 }
 
-// The node part of a plan: the words from the first past the segments on.
+// The node part of a plan: the words from the first past the segments on. A node runs, in stretched time, from its offset to its end.
 pub fn fill_nodes<'a>(
     out: &mut [u64],
     offsets: &'a [u64; 64],
-    deadlines: &'a [u64; 64],
+    ends: &'a [u64; 64],
     executions: &[u64; 64],
     n: usize,
     over: u64,
 )
-    requires { ⌜ NodesIn (now deadlines) (now executions) n over (length (now out)) ⌝ }
-    ensures { λ _. ⌜ now (out .exit) ≡ triples (at (now (offsets .entry))) (at (now (deadlines .entry))) (λ v. millionths (at (now (executions .entry)) v) over (at (now (deadlines .entry)) v)) n ++ drop (3 * n) (now (out .entry)) ⌝ }
+    requires { ⌜ NodesIn (now offsets) (now ends) (now executions) n over (length (now out)) ⌝ }
+    ensures { λ _. ⌜ now (out .exit) ≡ triples (at (now (offsets .entry))) (λ v. at (now (ends .entry)) v - at (now (offsets .entry)) v) (λ v. millionths (at (now (executions .entry)) v) over (at (now (ends .entry)) v - at (now (offsets .entry)) v)) n ++ drop (3 * n) (now (out .entry)) ⌝ }
 {
     let mut v: usize = 0;
     while v < n {
         let k = 3 * v;
-        let d = deadlines[v];
+        let d = ends[v] - offsets[v];
         out[k] = offsets[v];
         out[k + 1] = d;
         out[k + 2] = density(executions[v], over, d);

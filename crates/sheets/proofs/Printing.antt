@@ -12,18 +12,25 @@ use Rattle.plain.specs.Sums.{sumTo}
 use Rattle.plain.proofs.Sums.{sum-same, sumTo-le}
 use Rattle.tables.specs.declared.TaskTable.{TaskTable}
 use Rattle.tables.specs.Limits.{densityMax}
+use Rattle.refusals.specs.declared.Answer.{Answer}
 use Rattle.segments.proofs.Segments.{segments-le}
 use Rattle.shares.proofs.Millionths.{density-high}
 use Rattle.plans.specs.Diagram.{finish, segmentCount}
 use Rattle.plans.specs.Shares.{over, deadline}
 use Rattle.plans.specs.Shares as plan
 use Rattle.plans.specs.Words.{wordsMax, written}
+use Rattle.records.specs.declared.Outcome.{Outcome}
+use Rattle.records.specs.declared.Outcome.the-variants as outcome
 use Rattle.plans.specs.Accepted.{Accepted}
+use Rattle.plans.specs.Calls.{onTable, unplanned, planned}
+use Rattle.plans.specs.Drawn.{outcomeOf}
+use Rattle.plans.proofs.Tests.{table-refused, table-accepted}
 use Rattle.plans.proofs.Kept.{kept}
 use Rattle.plans.proofs.Read.{at-segments, at-nodes, length-written, at-density, words-fit}
 use Rattle.sheets.specs.Sheet.{Printable, density, sheetMax}
 use Rattle.sheets.specs.Wrote.{wrote}
-use Rattle.sheets.specs.Printed.{printed}
+use Rattle.sheets.specs.Lines.{refusedLine}
+use Rattle.sheets.specs.Printed.{tableSheet, printed}
 
 -- what a writer at the front of a buffer leaves
 abbrev pub Fronts : List ℕ → List ℕ → ℕ → List ℕ → Type 0
@@ -39,6 +46,14 @@ module _ (text out : List ℕ) where
 
   pub leaves : length out < sheetMax → (0 ≡ printed text out .count) × (out ≡ printed text out .out)
   leaves h = let e = lt-ltb (length out) sheetMax h in (simp e, simp e)
+
+-- a table whose planning is refused has the line of that refusal
+pub refused-line : (words : List ℕ) (t : TaskTable) {a : Answer} → a ≡ onTable (unplanned words) (planned words) t .answer → (a .refusal ≡ 0 → ⊥) → refusedLine (a .refusal) (a .place) ≡ onTable refusedLine tableSheet t
+refused-line words t {a} answered n = go (outcomeOf t) refl
+  where
+    go : (o : Outcome) → outcomeOf t ≡ o → refusedLine (a .refusal) (a .place) ≡ onTable refusedLine tableSheet t
+    go outcome.Accepted e = absurd (n (rw (answered, table-accepted (unplanned words) (planned words) t e)))
+    go (outcome.Refused r) e = rw (answered, table-refused (unplanned words) (planned words) t e) (sym (table-refused refusedLine tableSheet t e))
 
 module _ {t : TaskTable} (ok : Accepted t) (words : List ℕ) (room : wordsMax ≤ length words) where
   density-low : (v : ℕ) → v < t .count → plan.density t v ≤ densityMax

@@ -1,5 +1,6 @@
 // The text that plansheet prints, written into a lent buffer. Each writer answers the place past what it wrote.
 use records::Outcome;
+use refusals::Answer;
 use tables::TaskTable;
 ghost use mathlib.Core.Path.{_≡_};
 ghost use mathlib.Core.List.{[], _∷_};
@@ -283,19 +284,18 @@ fn put_table(out: &mut [u8], table: TaskTable) -> usize
     ensures { λ r. ⌜ r ≡ length (onTable refusedLine tableSheet table) ⌝ }
     ensures { λ r. ⌜ now (out .exit) ≡ wrote 0 (onTable refusedLine tableSheet table) (now (out .entry)) ⌝ }
 {
-    let diagram = plans::diagram_of(table);
-    let outcome = diagram.outcome;
-    let Outcome::Accepted = outcome else {
-        return put_outcome(out, outcome);
-    };
     let mut words = [0u64; plans::WORDS_MAX];
-    plans::write_plan(&mut words, table, diagram);
+    let planning = plans::plan_table(&mut words, table, Answer::accepted(0));
+    let answer = planning.answer;
+    if answer.refusal != 0 {
+        return put_refusal(out, answer.refusal, answer.place);
+    }
     put_sheet(
         out,
         table.id,
         table.period,
-        diagram.work,
-        diagram.path,
+        planning.work,
+        planning.path,
         &words,
     )
 }

@@ -25,7 +25,7 @@ pub seek-start : {P : List ℕ} {u : ℕ} → u < 2 ^ 64 → Seeking P u u
 seek-start h = record { low = h; sub = λ k m. m; rest = λ k r. r .waits }
 
 -- the lowest that is left has no unsettled parent: it is the answer
-pub seek-found : {P : List ℕ} {u left v o : ℕ} → Seeking P u left → Walk left v o → bitAnd (at P v) u ≡ 0 → Least (Ready P u) 64 v
+pub seek-found : {P : List ℕ} {u left v next : ℕ} → Seeking P u left → Walk left v next → bitAnd (at P v) u ≡ 0 → Least (Ready P u) 64 v
 seek-found {P} {u} {left} {v} i w e = record {
   within = let l = w .lt in omega arith;
   has = λ h. record { waits = i .sub v (w .mem); clear = apart (at P v) u e };
@@ -33,8 +33,8 @@ seek-found {P} {u} {left} {v} i w e = record {
 }
 
 -- it has one: the walk goes on without it
-pub seek-on : {P : List ℕ} {u left v o : ℕ} → Seeking P u left → Walk left v o → u < 2 ^ 64 → (bitAnd (at P v) u ≡ 0 → ⊥) → Seeking P u (left - o)
-seek-on {P} {u} {left} {v} {o} i w h ne = rw (w .one) (record {
+pub seek-on : {P : List ℕ} {u left v next : ℕ} → Seeking P u left → Walk left v next → u < 2 ^ 64 → (bitAnd (at P v) u ≡ 0 → ⊥) → Seeking P u next
+seek-on {P} {u} {left} {v} i w h ne = rw (w .out) (record {
   low = let l = i .low in omega arith;
   sub = λ k m. i .sub k (back k m (ℕ-discrete k v));
   rest = λ k r. bit-out-other v k left (λ e. blocked (rw e at r)) (w .mem) ∙ i .rest k r;

@@ -80,9 +80,9 @@ module _ (P W : List ℕ) (n : ℕ) where
     unfolding ends
     ends-le v = after-le n v
 
-  -- an end fits a word
-  pub ends-fit : n ≤ 64 → ((v : ℕ) → at W v ≤ weightMax) → (v : ℕ) → at (ends P W n) v < 2 ^ 64
-  ends-fit h b v = let w = ends-le weightMax b v in omega arith
+  -- a begin and any one weight fit a word together
+  pub begin-fit : n ≤ 64 → ((v : ℕ) → at W v ≤ weightMax) → (x v : ℕ) → x + at W v ≡ at (ends P W n) v → (u : ℕ) → x + at W u < 2 ^ 64
+  begin-fit h b x v e u = let w = ends-le weightMax b v in let g = b u in omega arith
 
   -- ---- where there is no loop, the rounds come to rest, and the rest is the one answer of the rule
   module _ (ok : Tidy P n) (free : (v : ℕ) → Reaches P v v → ⊥) where

@@ -1,63 +1,130 @@
--- `admissions::admit_table` meets its contract: the diagram's outcome is the table's, and an accepted one is entered.
-use mathlib.Core.Path.{sym, ap, _∙_}
+-- `admissions::admit_table` meets its contract: the place found with the id alone is the row's own, planning answers it where it is a refusal and
+-- the table has a plan, and the figures read off the words just written are the row.
+use mathlib.Core.Path.{_≡_, refl, sym, ap, _∙_}
+use Prim.Native.Nat.{_+_, _*_, _-_, _≤_}
+use native.Mathlib.Omega.{arith}
 use borrow.Author.Needs.{needs}
+use lib.ListN.{length, take, drop}
 use denote.Ref.{now}
-use Rattle.plans.specs.Drawn.{answerOf}
-use Rattle.plans.proofs.Tests.{table-refused, table-accepted}
-use Rattle.admissions.specs.Admission.{notAdmitted, entered}
-use Rattle.admissions.proofs.Tests.{leaves}
+use Rattle.refusals.specs.declared.Answer.{Answer}
+use Rattle.refusals.specs.Answer.{accepted}
+use Rattle.plans.specs.Accepted.{Accepted}
+use Rattle.plans.specs.Diagram.{segmentCount}
+use Rattle.plans.specs.Calls.{onTable}
+use Rattle.plans.specs.Words.{wordCount, written}
+use Rattle.boards.specs.declared.Row.{Row}
+use Rattle.admissions.specs.Admission.{Admission, rowOf, notAdmitted, entered}
+use Rattle.admissions.proofs.Row.{nodePart, plan-fits, part-lent, figures-in, row-read}
+use Rattle.admissions.proofs.Tests.{table-out, table-in}
 use Rattle.admissions.proofs.admit_table.Statement.{statement}
 use Rattle.admissions.proofs.admit_table.Tie as tie
 
-diagram-of-requires : tie.Need-diagram-of-requires
-diagram-of-requires c κs = search needs
+placed-requires : tie.Need-placed-requires
+placed-requires c κs = search needs
 
-enum-told : tie.Need-enum-told
-enum-told c = search needs
-
-enum-told-2 : tie.Need-enum-told-2
-enum-told-2 c = search needs
-
-answer-of-requires : tie.Need-answer-of-requires
-answer-of-requires c κs = search needs
+plan-table-requires : tie.Need-plan-table-requires
+plan-table-requires c κs = search needs
 
 not-admitted-requires : tie.Need-not-admitted-requires
 not-admitted-requires c κs = search needs
 
-returns : tie.Need-returns
-returns c =
-    let o = c .before in
-    let d = o .before .before .before in
-    let a = d .before .before .args in
-    let told = o .before .enum-told2 .given .1 in
-    let e = table-refused (notAdmitted (a .board .rows) (now (a .words))) (entered (a .board .rows) (now (a .words))) (a .table) (sym (d .diagram-of .ensures .0) ∙ told) in
-    leaves (a .board .rows) e (c .not-admitted .ensures) (o .answer-of .ensures ∙ ap answerOf told)
-
-enter-requires : tie.Need-enter-requires
-enter-requires c κs = (c .before .before .before .diagram-of .ensures .1 (c .before .enum-told .given .1), c .before .before .before .before .before .pre .1)
-
 same-length : tie.Need-same-length
 same-length c = search needs
 
+returns : tie.Need-returns
+returns c =
+    let m = c .before .before .before .before .before .before in
+    let p = m .before .before .before in
+    let a = p .before .before .args in
+    let made = m .plan-table .ensures .0 in
+    let e = table-out (a .board .rows) (now (a .words)) (a .table) (p .placed .result) (p .placed .ensures .0) (made .0) (made .1) (c .before .if1 .taken) in
+    (c .not-admitted .ensures ∙ sym (ap (λ (x : Admission). x .change) e), rw (c .not-admitted .ensures) (omega arith), sym (ap (λ (x : Admission). x .words) e))
+
+-- past the test the table has a plan
+accepts : (c : tie.Else1) → Accepted (c .before .before .before .before .before .before .before .before .before .before .args .table)
+accepts c = c .before .before .before .before .before .plan-table .ensures .1 (c .if1 .left) .table
+
+-- so its words are written, and its row goes to the place found
+enters : (c : tie.Else1) → (let m = c .before .before .before .before .before in let p = m .before .before .before in let a = p .before .before .args in let f = p .placed .result in
+    (m .plan-table .result .answer ≡ accepted (wordCount (segmentCount (a .table)) (a .table .count))) × (m .plan-table .last .0 ≡ written (a .table) (now (a .words)))
+    × (onTable (notAdmitted (a .board .rows) (now (a .words))) (entered (a .board .rows) (now (a .words))) (a .table) ≡ record { change = record { at = f .at; row = rowOf (a .table); answer = f .answer }; words = written (a .table) (now (a .words)) }))
+enters c =
+    let m = c .before .before .before .before .before in
+    let p = m .before .before .before in
+    let a = p .before .before .args in
+    let made = m .plan-table .ensures .0 in
+    table-in (a .board .rows) (now (a .words)) (a .table) (p .placed .result) (p .placed .ensures .0) (made .0) (made .1) (c .if1 .left) (accepts c)
+
+-- how many words there are
+count : (c : tie.Else1) → (let m = c .before .before .before .before .before in let t = m .before .before .before .before .before .args .table in m .plan-table .result .answer .value ≡ wordCount (segmentCount t) (t .count))
+count c = ap (λ (x : Answer). x .value) (enters c .0)
+
+-- what stands from the first node's on
+part : (c : tie.Else1) → (let m = c .before .before .before .before .before in let a = m .before .before .before .before .before .args in let k = m .plan-table .result .answer .value - 3 * a .table .count in take (length (m .plan-table .last .0) - k) (drop k (m .plan-table .last .0)) ≡ nodePart (a .table) (now (a .words)))
+part c =
+    let a = c .before .before .before .before .before .before .before .before .before .before .args in
+    part-lent (a .table) (now (a .words)) (enters c .1) (omega (arith, count c))
+
+-- the whole plan lies in the words
+inside : (c : tie.Else1) → (let m = c .before .before .before .before .before in m .plan-table .result .answer .value ≤ length (m .plan-table .last .0))
+inside c =
+    let s = c .before .before .before .before .before .before .before .before .before .before in
+    rw (count c, enters c .1) (plan-fits (accepts c) (now (s .args .words)) (s .pre .1))
+
+mul-from : tie.Need-mul-from
+mul-from c = search needs
+
+sub-from : tie.Need-sub-from
+sub-from c = omega (arith, count c)
+
+mul-figures-of : tie.Need-mul-figures-of
+mul-figures-of c = omega (arith, inside c)
+
+sub-figures-of : tie.Need-sub-figures-of
+sub-figures-of c = omega (arith, inside c)
+
+part-figures-of-start : tie.Need-part-figures-of-start
+part-figures-of-start c = omega (arith, inside (c .before))
+
+part-figures-of-end : tie.Need-part-figures-of-end
+part-figures-of-end c = search needs
+
+figures-of-requires : tie.Need-figures-of-requires
+figures-of-requires c κs =
+    let e = c .before .before in
+    let s = e .before .before .before .before .before .before .before .before .before .before in
+    figures-in (accepts e) (now (s .args .words)) (s .pre .1) (part e)
+
+same-length-2 : tie.Need-same-length-2
+same-length-2 c = search needs
+
 returns-2 : tie.Need-returns-2
 returns-2 c =
-    let w = c .before .before in
-    let d = w .before .before .before .before in
-    let a = d .before .before .args in
-    let told = w .before .before .enum-told .given .1 in
-    let e = table-accepted (notAdmitted (a .board .rows) (now (a .words))) (entered (a .board .rows) (now (a .words))) (a .table) (sym (d .diagram-of .ensures .0) ∙ told) in
-    rw e (w .enter .ensures)
+    let e = c .before .before .before in
+    let p = e .before .before .before .before .before .before .before .before in
+    let a = p .before .before .args in
+    let row = c .figures-of .ensures ∙ row-read (a .table) (now (a .words)) (part e) in
+    let so = enters e .2 in (
+      ap (λ (r : Row). record { at = p .placed .result .at; row = r; answer = p .placed .result .answer }) row ∙ sym (ap (λ (x : Admission). x .change) so),
+      p .placed .ensures .1,
+      enters e .1 ∙ sym (ap (λ (x : Admission). x .words) so),
+    )
 
 pub admit-table-spec : {M : Type 1} → statement M
 admit-table-spec =
     tie.close
     (tie.spec
-    diagram-of-requires
-    enum-told
-    enum-told-2
-    answer-of-requires
+    placed-requires
+    plan-table-requires
     not-admitted-requires
-    returns
-    enter-requires
     same-length
+    returns
+    mul-from
+    sub-from
+    mul-figures-of
+    sub-figures-of
+    part-figures-of-start
+    part-figures-of-end
+    figures-of-requires
+    same-length-2
     returns-2)

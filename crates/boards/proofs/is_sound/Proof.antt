@@ -1,12 +1,15 @@
--- `boards::is_sound` meets its contract. The loop's invariant: the rows passed are sound and new; the first that isn't makes the whole test fail.
+-- `boards::is_sound` meets its contract. The loop's invariant: the rows passed are sound and new, and their ids stand in the array; the first
+-- row that isn't makes the whole test fail.
 use mathlib.Core.Path.{_≡_, refl, sym, _∙_}
 use mathlib.Core.Bool.{Bool, true, false}
 use mathlib.Core.List.{List}
-use Prim.Native.Nat.{ℕ, _-_, _≤_, _<_}
+use Prim.Native.Nat.{ℕ, _+_, _-_, _≤_, _<_}
 use native.Mathlib.Omega.{arith}
 use borrow.Author.Needs.{needs}
 use borrow.Author.Tests.{eq-eqb}
+use lib.ListN.{set}
 use Rattle.plain.specs.At.{at}
+use Rattle.plain.proofs.Lists.{Filled, fill-zeros, fill-more}
 use Rattle.boards.specs.declared.Row.{Row}
 use Rattle.boards.specs.declared.Board.{Board}
 use Rattle.boards.specs.Row.{rowsMax, rowAt}
@@ -21,6 +24,10 @@ use Rattle.boards.proofs.is_sound.Tie as tie
 abbrev passes : List Row → ℕ → Bool
 passes rows k = both (isSoundRow (rowAt rows k)) (isNew rows k)
 
+-- the ids of the first k rows stand in the array
+abbrev Ids : List Row → ℕ → List ℕ → Type 0
+Ids rows k ids = Filled (λ i. rowAt rows i .id) (λ i. 0) rowsMax k ids
+
 -- with 16 rows, the whole test is that of the rows, and one that fails makes it fail
 whole : (b : Board) → Held b → {t : Bool} → t ≡ allTo rowsMax (passes (b .rows)) → t ≡ isSound (b .rows)
 unfolding isSound
@@ -30,16 +37,13 @@ fails : (b : Board) → Held b → (k : ℕ) → k < rowsMax → false ≡ passe
 fails b h k l e = whole b h (sym (allTo-false rowsMax (passes (b .rows)) k l (sym e)))
 
 abbrev Inv-loop : tie.InvT-loop
-Inv-loop board ids k₀ k = (k ≤ rowsMax) × (allTo k (passes (board .rows)) ≡ true)
+Inv-loop board ids₀ k₀ ids k = (k ≤ rowsMax) × (allTo k (passes (board .rows)) ≡ true) × Ids (board .rows) k ids
 
 abbrev μ-loop : tie.MeasureT-loop
-μ-loop board ids k₀ k = rowsMax - k
-
-ids-of-requires : tie.Need-ids-of-requires Inv-loop μ-loop
-ids-of-requires c κs = search needs
+μ-loop board ids₀ k₀ ids k = rowsMax - k
 
 loop-holds : tie.Need-loop-holds Inv-loop μ-loop
-loop-holds c = (omega arith, allTo-none _)
+loop-holds c = (omega arith, allTo-none _, fill-zeros _ rowsMax)
 
 mul-row : tie.Need-mul-row Inv-loop μ-loop
 mul-row c = omega arith
@@ -53,24 +57,34 @@ is-sound-row-requires c κs = search needs
 returns : tie.Need-returns Inv-loop μ-loop
 returns c =
     let head = c .before .before .before .before in
-    let start = head .before .before in
-    fails (start .args .t1) (start .good .0) (head .loop .k) (omega arith) (pick-no _ (failed (c .before .is-sound-row .ensures) (c .if1 .taken)) refl)
+    fails (head .before .args .t1) (head .before .good .0) (head .loop .k) (omega arith) (pick-no _ (failed (c .before .is-sound-row .ensures) (c .if1 .taken)) refl)
+
+mul-ids : tie.Need-mul-ids Inv-loop μ-loop
+mul-ids c = omega arith
+
+array-write-ids : tie.Need-array-write-ids Inv-loop μ-loop
+array-write-ids c = omega arith
 
 is-new-requires : tie.Need-is-new-requires Inv-loop μ-loop
 is-new-requires c κs = omega arith
 
+-- the array with this row's id
+more : (c : tie.Else1 Inv-loop μ-loop) → (let head = c .before .before .before .before in let rows = head .before .args .t1 .rows in Ids rows (head .loop .k + 1) (set (head .loop .ids) (head .loop .k) (rowAt rows (head .loop .k) .id)))
+more c =
+    let head = c .before .before .before .before in
+    fill-more _ (omega arith) refl (head .loop .inv .2)
+
 -- the test of the ids is that of the rows
-new-so : (c : tie.After-is-new Inv-loop μ-loop) → (let head = c .before .before .before .before .before .before in c .is-new .result ≡ isNew (head .before .before .args .t1 .rows) (head .loop .k))
+new-so : (c : tie.After-is-new Inv-loop μ-loop) → (let head = c .before .before .before .before .before .before in c .is-new .result ≡ isNew (head .before .args .t1 .rows) (head .loop .k))
 new-so c =
     let head = c .before .before .before .before .before .before in
-    c .is-new .ensures ∙ new-among (head .before .before .args .t1 .rows) (at (head .before .ids-of .result)) (head .loop .k) (omega arith) (head .before .ids-of .ensures)
+    c .is-new .ensures ∙ new-among (head .before .args .t1 .rows) _ (head .loop .k) (λ i h. more (c .before .before) .done i (omega arith))
 
 returns-2 : tie.Need-returns-2 Inv-loop μ-loop
 returns-2 c =
     let one = c .before .before .before in
     let head = one .before .before .before .before in
-    let start = head .before .before in
-    fails (start .args .t1) (start .good .0) (head .loop .k) (omega arith)
+    fails (head .before .args .t1) (head .before .good .0) (head .loop .k) (omega arith)
     (pick-yes _ (passed (one .before .is-sound-row .ensures) (one .if1 .left)) (sym (failed (new-so (c .before)) (c .if2 .taken))))
 
 add-k : tie.Need-add-k Inv-loop μ-loop
@@ -84,14 +98,13 @@ loop-again c =
     let one = c .before .before .before in
     let head = one .before .before .before .before in
     let here = true-both (passed (one .before .is-sound-row .ensures) (one .if1 .left)) (passed (new-so (c .before)) (c .if2 .left)) in
-    (omega arith, allTo-more (head .loop .k) (passes (head .before .before .args .t1 .rows)) ∙ true-both (head .loop .inv .1) here)
+    (omega arith, allTo-more (head .loop .k) (passes (head .before .args .t1 .rows)) ∙ true-both (head .loop .inv .1) here, more one)
 
 returns-3 : tie.Need-returns-3 Inv-loop μ-loop
 returns-3 c =
     let head = c .before in
-    let start = head .before .before in
     let end : head .loop .k ≡ rowsMax = omega arith in
-    whole (start .args .t1) (start .good .0) (sym (rw end at (head .loop .inv .1)))
+    whole (head .before .args .t1) (head .before .good .0) (sym (rw end at (head .loop .inv .1)))
 
 pub is-sound-spec : {M : Type 1} → statement M
 is-sound-spec =
@@ -99,12 +112,13 @@ is-sound-spec =
     (tie.spec
     Inv-loop
     μ-loop
-    ids-of-requires
     loop-holds
     mul-row
     element-copy-out-row
     is-sound-row-requires
     returns
+    mul-ids
+    array-write-ids
     is-new-requires
     returns-2
     add-k

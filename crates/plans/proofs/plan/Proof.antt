@@ -54,21 +54,25 @@ read c = ap (λ (r : Reading). r .outcome) (sym (c .before .before .read-record 
 range : (c : tie.After-enum-told) → InRange (c .before .before .read-record .result .table)
 range c = rw (c .before .before .read-record .ensures) (accepted-table (now (c .before .before .before .before .before .before .args .bytes)) (read c))
 
+accepted-requires : tie.Need-accepted-requires
+accepted-requires c κs = search needs
+
 plan-table-requires : tie.Need-plan-table-requires
-plan-table-requires c κs = (range (c .before), c .before .before .before .before .if1 .left)
+plan-table-requires c κs = (range (c .before .before), c .before .before .before .before .before .if1 .left)
 
 same-length : tie.Need-same-length
 same-length c = search needs
 
 returns-3 : tie.Need-returns-3
 returns-3 c =
-    let p = c .before .before in
-    let t = p .before .before in
+    let p = c .before .before .before in
+    let t = p .before .before .before in
     let d = t .before .before in
     let a = d .before .before .before .before .args in
     let e = enough (now (a .bytes)) (now (a .words)) (d .before .if1 .left) ∙ task-read (unplanned (now (a .words))) (planned (now (a .words))) (now (a .bytes)) (read t) in
     let s = ap (λ (r : Reading). onTable (unplanned (now (a .words))) (planned (now (a .words))) (r .table)) (d .read-record .ensures) ∙ sym e in
-    (p .plan-table .ensures .0 ∙ ap (λ (q : Planned). q .answer) s, p .plan-table .ensures .1 ∙ ap (λ (q : Planned). q .words) s)
+    let made = rw (p .before .accepted .ensures) at (p .plan-table .ensures .0) in
+    (made .0 ∙ ap (λ (q : Planned). q .answer) s, made .1 ∙ ap (λ (q : Planned). q .words) s)
 
 pub plan-spec : {M : Type 1} → statement M
 plan-spec =
@@ -81,6 +85,7 @@ plan-spec =
     enum-told-2
     answer-of-requires
     returns-2
+    accepted-requires
     plan-table-requires
     same-length
     returns-3)

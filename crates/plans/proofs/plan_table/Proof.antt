@@ -1,16 +1,18 @@
--- `plans::plan_table` meets its contract: the diagram's outcome is the table's, and an accepted one is written.
-use mathlib.Core.Path.{_≡_, sym, ap, _∙_}
+-- `plans::plan_table` meets its contract: the diagram's outcome is the table's, a refusal that is held goes out with the words untouched, and else
+-- the plan is written.
+use mathlib.Core.Path.{_≡_, refl, sym, ap, _∙_}
 use borrow.Author.Needs.{needs}
 use denote.Ref.{now}
+use Rattle.refusals.specs.declared.Answer.{Answer}
 use Rattle.refusals.specs.Answer.{accepted}
-use Rattle.plans.specs.Calls.{Planned, unplanned, planned}
+use Rattle.plans.specs.Calls.{Planned, unplanned, plannedUnless, onTable}
 use Rattle.plans.specs.Drawn.{answerOf}
-use Rattle.plans.proofs.Tests.{table-refused, table-accepted}
+use Rattle.plans.proofs.Tests.{table-refused, table-accepted, refused-some, held-back, not-held}
 use Rattle.plans.proofs.plan_table.Statement.{statement}
 use Rattle.plans.proofs.plan_table.Tie as tie
 
-diagram-of-requires : tie.Need-diagram-of-requires
-diagram-of-requires c κs = search needs
+draw-requires : tie.Need-draw-requires
+draw-requires c κs = (c .before .before .before .before .before .pre .0, refl, refl, refl)
 
 enum-told : tie.Need-enum-told
 enum-told c = search needs
@@ -24,13 +26,29 @@ answer-of-requires c κs = search needs
 returns : tie.Need-returns
 returns c =
     let d = c .before .before .before in
-    let a = d .before .before .args in
+    let a = d .before .before .before .before .before .before .args in
     let told = c .before .enum-told2 .given .1 in
-    let e = table-refused (unplanned (now (a .words))) (planned (now (a .words))) (a .table) (sym (d .diagram-of .ensures .0) ∙ told) in
-    (c .answer-of .ensures ∙ ap answerOf told ∙ sym (ap (λ (p : Planned). p .answer) e), sym (ap (λ (p : Planned). p .words) e))
+    let drawn = sym (d .draw .ensures .0) ∙ told in
+    let answer = c .answer-of .ensures ∙ ap answerOf told in
+    let e = table-refused (unplanned (now (a .words))) (plannedUnless (a .held) (now (a .words))) (a .table) drawn in
+    ((answer ∙ sym (ap (λ (p : Planned). p .answer) e), sym (ap (λ (p : Planned). p .words) e)), λ z. absurd (refused-some (a .table) drawn (sym (ap (λ (x : Answer). x .refusal) answer) ∙ z)))
+
+-- a table that has a plan
+planned : (c : tie.After-enum-told) → (let a = c .before .before .before .before .before .before .before .before .args in onTable (unplanned (now (a .words))) (plannedUnless (a .held) (now (a .words))) (a .table) ≡ plannedUnless (a .held) (now (a .words)) (a .table))
+planned c = table-accepted _ _ _ (sym (c .before .before .draw .ensures .0) ∙ c .enum-told .given .1)
+
+returns-2 : tie.Need-returns-2
+returns-2 c =
+    let told = c .before .before in
+    let a = told .before .before .before .before .before .before .before .before .args in
+    let e = planned told ∙ held-back (a .held) (now (a .words)) (a .table) (c .if1 .taken) in
+    ((sym (ap (λ (p : Planned). p .answer) e), sym (ap (λ (p : Planned). p .words) e)), λ z. absurd (c .if1 .taken z))
 
 write-plan-requires : tie.Need-write-plan-requires
-write-plan-requires c κs = (c .before .before .before .diagram-of .ensures .1 (c .before .enum-told .given .1), c .before .before .before .before .before .pre .1)
+write-plan-requires c κs =
+    let told = c .before .before .before .before .before .before .before in
+    let d = told .before .before in
+    (d .draw .ensures .1 (told .enum-told .given .1), d .before .before .before .before .before .before .pre .1)
 
 accepted-requires : tie.Need-accepted-requires
 accepted-requires c κs = search needs
@@ -38,25 +56,30 @@ accepted-requires c κs = search needs
 same-length : tie.Need-same-length
 same-length c = search needs
 
-returns-2 : tie.Need-returns-2
-returns-2 c =
+returns-3 : tie.Need-returns-3
+returns-3 c =
     let w = c .before .before .before in
-    let d = w .before .before .before .before in
-    let a = d .before .before .args in
-    let told = w .before .before .enum-told .given .1 in
-    let e = table-accepted (unplanned (now (a .words))) (planned (now (a .words))) (a .table) (sym (d .diagram-of .ensures .0) ∙ told) in
-    (c .accepted .ensures ∙ ap accepted (w .write-plan .ensures .0) ∙ sym (ap (λ (p : Planned). p .answer) e), w .write-plan .ensures .1 ∙ sym (ap (λ (p : Planned). p .words) e))
+    let free = w .before .before .before .before .before .before in
+    let told = free .before .before in
+    let d = told .before .before in
+    let a = d .before .before .before .before .before .before .args in
+    let drawn = d .draw .ensures .1 (told .enum-told .given .1) in
+    let e = planned told ∙ not-held (a .held) (now (a .words)) (a .table) (free .if1 .left) in (
+      (c .accepted .ensures ∙ ap accepted (w .write-plan .ensures .0) ∙ sym (ap (λ (p : Planned). p .answer) e), w .write-plan .ensures .1 ∙ sym (ap (λ (p : Planned). p .words) e)),
+      λ z. record { table = drawn .lined .table; work = drawn .work; path = drawn .path },
+    )
 
 pub plan-table-spec : {M : Type 1} → statement M
 plan-table-spec =
     tie.close
     (tie.spec
-    diagram-of-requires
+    draw-requires
     enum-told
     enum-told-2
     answer-of-requires
     returns
+    returns-2
     write-plan-requires
     accepted-requires
     same-length
-    returns-2)
+    returns-3)

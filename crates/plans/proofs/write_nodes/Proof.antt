@@ -1,67 +1,78 @@
--- `plans::write_nodes` meets its contract: the words give each node its offset and deadline, and the part behind the last segment is filled
--- with them.
-use mathlib.Core.Path.{_≡_, refl, sym, ap, _∙_}
-use Prim.Native.Nat.{ℕ, _+_, _-_, _*_, _≤_, _<_}
+-- `plans::write_nodes` meets its contract: by the words each node's start and finish, in stretched time, are its offset and its end, and the part
+-- behind the last segment is filled with them.
+use mathlib.Core.Path.{_≡_, ap}
+use Prim.Native.Nat.{ℕ, _+_, _*_, _≤_}
 use native.Mathlib.Omega.{arith}
 use borrow.Author.Needs.{needs}
-use lib.ListN.{length, take, drop, length-take, length-drop}
+use lib.ListN.{length, length-take, length-drop}
 use Rattle.plans.specs.Words.{wordCount}
-use Rattle.plans.proofs.Nodes.{room, shares-in, nodes-in, nodes-so, whole-plan}
+use Rattle.plans.proofs.Lined.{starting-so, finishing-so}
+use Rattle.plans.proofs.Nodes.{room, sums-in, nodes-in, nodes-so, whole-plan}
 use Rattle.plans.proofs.write_nodes.Statement.{statement}
 use Rattle.plans.proofs.write_nodes.Tie as tie
 
-shares-of-requires : tie.Need-shares-of-requires
-shares-of-requires c κs = let p = c .before .before .before .before .before .pre in shares-in (p .0) (p .1)
+stretched-requires : tie.Need-stretched-requires
+stretched-requires c κs =
+    let p = c .before .before .pre in
+    (sums-in (p .0) (p .1), p .0 .table .range .count-high, starting-so (p .0))
+
+stretched-requires-2 : tie.Need-stretched-requires-2
+stretched-requires-2 c κs =
+    let p = c .before .before .before .before .pre in
+    (sums-in (p .0) (p .1), p .0 .table .range .count-high, finishing-so (p .0))
 
 -- the whole plan fits the words
-fits : (c : tie.After-shares-of) → (let a = c .before .before .before .before .before .before .args in 3 + 3 * a .cut .segments + 3 * a .t2 .count ≤ length (a .words .now))
-fits c = let p = c .before .before .before .before .before .before .pre in room (p .0) (p .1)
+fits : (c : tie.After-stretched2) → (let a = c .before .before .before .before .before .args in 3 + 3 * a .cut .segments + 3 * a .table .count ≤ length (a .words .now))
+fits c = let p = c .before .before .before .before .before .pre in room (p .0) (p .1)
 
 mul-from : tie.Need-mul-from
-mul-from c = omega (arith, fits c)
+mul-from c = omega (arith, fits (c .before))
 
 add-from : tie.Need-add-from
-add-from c = omega (arith, fits c)
+add-from c = omega (arith, fits (c .before))
 
 mul-fill-nodes : tie.Need-mul-fill-nodes
-mul-fill-nodes c = omega (arith, fits c)
+mul-fill-nodes c = omega (arith, fits (c .before))
 
 sub-fill-nodes : tie.Need-sub-fill-nodes
-sub-fill-nodes c = omega (arith, fits c)
+sub-fill-nodes c = omega (arith, fits (c .before))
 
 part-fill-nodes-start : tie.Need-part-fill-nodes-start
-part-fill-nodes-start c = omega (arith, fits c)
+part-fill-nodes-start c = omega (arith, fits (c .before))
 
 part-fill-nodes-end : tie.Need-part-fill-nodes-end
 part-fill-nodes-end c = search needs
 
 fill-nodes-requires : tie.Need-fill-nodes-requires
 fill-nodes-requires c κs =
-    let s = c .before .before .before .before .before .before in
-    let p = s .before .before .before .before .before .before .pre in
-    nodes-in (p .0) (p .1) (s .shares-of .ensures) (simp (length-take, length-drop) (omega (arith, fits s)))
+    let e = c .before .before .before .before .before in
+    let o = e .before .before in
+    let p = o .before .before .before .pre in
+    nodes-in (p .0) (p .1) _ _ (o .stretched .ensures) (e .stretched2 .ensures) (simp (length-take, length-drop) (omega (arith, fits e)))
 
 mul-result : tie.Need-mul-result
 mul-result c = search needs
 
 add-result : tie.Need-add-result
-add-result c = omega (arith, fits (c .before .before .before .before .before .before .before .before .before))
+add-result c = omega (arith, fits (c .before .before .before .before .before .before .before .before))
 
 same-length : tie.Need-same-length
 same-length c = search needs
 
 returns : tie.Need-returns
 returns c =
-    let s = c .before .before .before .before .before .before .before .before .before in
-    let p = s .before .before .before .before .before .before .pre in
-    let n = s .before .before .before .before .before .before .args .t2 .count in
-    (ap (λ (k : ℕ). wordCount k n) (p .1 .segments), whole-plan (p .0) (p .1) (nodes-so (p .0) (p .1) (s .shares-of .ensures)) (c .before .before .fill-nodes .ensures))
+    let e = c .before .before .before .before .before .before .before .before in
+    let o = e .before .before in
+    let s = o .before .before .before in
+    let p = s .pre in
+    (ap (λ (k : ℕ). wordCount k (s .args .table .count)) (p .1 .segments), whole-plan (p .0) (p .1) (nodes-so (p .0) (p .1) (o .stretched .result) (e .stretched2 .result) (o .stretched .ensures) (e .stretched2 .ensures)) (c .before .before .fill-nodes .ensures))
 
 pub write-nodes-spec : {M : Type 1} → statement M
 write-nodes-spec =
     tie.close
     (tie.spec
-    shares-of-requires
+    stretched-requires
+    stretched-requires-2
     mul-from
     add-from
     mul-fill-nodes

@@ -1,11 +1,11 @@
 -- `plans::write_plan` meets its contract: the front is written first, and the nodes behind it leave it as it is.
-use mathlib.Core.Path.{_≡_, refl, sym, ap, _∙_}
-use Prim.Native.Nat.{ℕ, _+_, _*_, _≤_}
+use mathlib.Core.Path.{_≡_, _∙_}
+use mathlib.Core.List.{_++_}
+use Prim.Native.Nat.{_+_, _*_}
 use native.Mathlib.Omega.{arith}
 use borrow.Author.Needs.{needs}
-use lib.ListN.{length, drop}
+use lib.ListN.{drop}
 use denote.Ref.{now}
-use mathlib.Core.List.{_++_}
 use Rattle.plans.specs.Diagram.{segmentCount}
 use Rattle.plans.specs.Words.{frontWords}
 use Rattle.plans.proofs.Front.{front-back, past-front}
@@ -25,14 +25,17 @@ write-nodes-requires c κs =
     let s = w .before .before .before in
     let kept = w .write-segments .kept .0 in
     let room = s .pre .1 in
-    (s .pre .0, record { segments = w .write-segments .ensures .0 .0; over = w .write-segments .ensures .0 .1; room = omega arith; front = front-back (s .args .table) (now (s .args .words)) (front w) })
+    (s .pre .0 .lined, record { segments = w .write-segments .ensures .0 .0; over = w .write-segments .ensures .0 .1; room = omega arith; front = front-back (s .args .table) (now (s .args .words)) (front w) })
 
 same-length : tie.Need-same-length
 same-length c = search needs
 
 returns : tie.Need-returns
-returns c = let w = c .before .before .before .before .before .before in
-    (c .before .before .write-nodes .ensures .0, c .before .before .write-nodes .ensures .1 ∙ past-front (w .before .before .before .args .table) (now (w .before .before .before .args .words)) (front w))
+returns c =
+    let n = c .before .before in
+    let w = n .before .before .before .before in
+    let a = w .before .before .before .args in
+    (n .write-nodes .ensures .0, n .write-nodes .ensures .1 ∙ past-front (a .table) (now (a .words)) (front w))
 
 pub write-plan-spec : {M : Type 1} → statement M
 write-plan-spec = tie.close (tie.spec write-segments-requires write-nodes-requires same-length returns)

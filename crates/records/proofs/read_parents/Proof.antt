@@ -1,17 +1,15 @@
--- `records::read_parents` meets its contract. The loop's invariant: the parents still to be read, put into the set so far, make the whole set;
--- the set holds only numbers below `low`.
-use Prim.Native.Nat.{ℕ, _+_, _-_, _*_, _%_, _^_, _≤_, _<_}
-use mathlib.Core.Path.{_≡_, refl, sym, ap, _∙_}
-use native.Mathlib.Nat.{one-mul, mod-eq-of-lt}
+-- `records::read_parents` meets its contract. The loop goes on from the short way's run with the same invariant: the parents still to be read,
+-- put into the set so far, make the whole set; the set holds only numbers below `low`.
+use Prim.Native.Nat.{_+_, _-_, _^_, _≤_, _<_}
+use mathlib.Core.Path.{_≡_, sym, _∙_}
 use native.Mathlib.Omega.{arith}
 use lib.ListN.{length}
-use lib.Pow.{pow-lt, pow-mono}
 use denote.Ref.{now}
 use borrow.Author.Needs.{needs}
 use Rattle.refusals.specs.Numbers.{badParent}
 use Rattle.records.specs.Parents.{parents}
-use Rattle.records.proofs.Cases.{then-read, then-refused, parents-none, parents-more}
-use Rattle.records.proofs.Inside.{Passed, passed, set-room}
+use Rattle.records.proofs.Cases.{then-refused, parents-none, parents-more, parents-next}
+use Rattle.records.proofs.Inside.{Passed, passed, set-room, bit-word, word-room}
 use Rattle.records.proofs.read_parents.Statement.{statement}
 use Rattle.records.proofs.read_parents.Tie as tie
 
@@ -22,8 +20,11 @@ Inv-loop bytes from count n left₀ low₀ set₀ at₀ left low set at =
 abbrev μ-loop : tie.MeasureT-loop
 μ-loop bytes from count n left₀ low₀ set₀ at₀ left low set at = left
 
+short-parents-requires : tie.Need-short-parents-requires Inv-loop μ-loop
+short-parents-requires c κs = search needs
+
 loop-holds : tie.Need-loop-holds Inv-loop μ-loop
-loop-holds c = (refl, omega arith, omega arith, omega arith)
+loop-holds c = let r = c .short-parents .ensures in (sym (r .0), r .1 .0, r .1 .1, r .1 .2)
 
 sub-read-ranged : tie.Need-sub-read-ranged Inv-loop μ-loop
 sub-read-ranged c = search needs
@@ -38,17 +39,13 @@ enum-told : tie.Need-enum-told Inv-loop μ-loop
 enum-told c = search needs
 
 -- the parent that a turn read
-parent : (c : tie.After-step Inv-loop μ-loop) → (let h = c .before .before .before .before in let a = h .before .before .args in
+parent : (c : tie.After-step Inv-loop μ-loop) → (let h = c .before .before .before .before in let a = h .before .before .before .args in
     Passed badParent (h .loop .low) (a .n - 1) (now (a .bytes)) (h .loop .at) (c .step .given .0 .0) (c .step .given .0 .1 .0))
 parent c = passed _ _ _ _ _ _ _ _ (c .before .before .read-ranged .ensures) (c .step .given .1) (omega arith)
 
 -- the set has room for it
 room : (c : tie.After-step Inv-loop μ-loop) → c .before .before .before .before .loop .set + 2 ^ (c .step .given .0 .0) < 2 ^ (c .step .given .0 .0 + 1)
 room c = set-room _ _ _ (c .before .before .before .before .loop .inv .2) (parent c .least)
-
--- the word of one parent
-bit : (p : ℕ) → p < 64 → (1 * 2 ^ p) % 2 ^ 64 ≡ 2 ^ p
-bit p h = ap (λ (w : ℕ). w % 2 ^ 64) (one-mul (2 ^ p)) ∙ mod-eq-of-lt (pow-lt h)
 
 returns : tie.Need-returns Inv-loop μ-loop
 returns c = let l = c .before .before .before .before .loop in let e = c .enum-told .given .1 in
@@ -59,8 +56,7 @@ shl-set c = let p = parent (c .before) in omega arith
 
 add-set : tie.Need-add-set Inv-loop μ-loop
 add-set c = let p = parent (c .before) in
-    rw (bit (c .before .step .given .0 .0) (omega arith))
-    (omega (arith, room (c .before), pow-mono {i = c .before .step .given .0 .0 + 1} {j = 64} (omega arith)))
+    record { fits = word-room _ _ _ (c .before .before .before .before .before .loop .inv .2) (p .least) (omega arith) }
 
 add-low : tie.Need-add-low Inv-loop μ-loop
 add-low c = let p = parent (c .before) in omega arith
@@ -73,8 +69,8 @@ loop-less c = search needs
 
 loop-again : tie.Need-loop-again Inv-loop μ-loop
 loop-again c = let p = parent (c .before) in let l = c .before .before .before .before .before .loop in
-    rw (bit (c .before .step .given .0 .0) (omega arith))
-    (l .inv .0 ∙ parents-more _ _ _ _ _ (l .left) (omega arith) ∙ then-read _ _ _ _ _ (p .is), omega arith, room (c .before), omega arith)
+    rw (bit-word (c .before .step .given .0 .0) (omega arith))
+    (l .inv .0 ∙ parents-next _ _ _ _ _ (l .left) _ _ (omega arith) (p .is), omega arith, room (c .before), omega arith)
 
 returns-2 : tie.Need-returns-2 Inv-loop μ-loop
 returns-2 c = let l = c .before .loop in sym (l .inv .0 ∙ parents-none _ _ _ _ _ (l .left) (c .loop-test .left))
@@ -85,6 +81,7 @@ read-parents-spec =
     (tie.spec
     Inv-loop
     μ-loop
+    short-parents-requires
     loop-holds
     sub-read-ranged
     read-ranged-requires

@@ -1,9 +1,9 @@
 -- `sets::greatest_of` meets its contract: what is left of the set, with the best so far, has the greatest of the whole at every turn.
-use mathlib.Core.Path.{_≡_, ap, _∙_, sym}
+use mathlib.Core.Path.{_≡_, ap, _∙_}
 use mathlib.Core.Logic.{⊎-elim}
-use Prim.Native.Nat.{ℕ, _^_, _<_, _≤_, _-_, _*_, _%_, max}
+use Prim.Native.Nat.{ℕ, _^_, _<_, _-_, max}
 use native.Mathlib.Omega.{arith}
-use borrow.Author.Needs.{needs}
+use lib.Bits.{bitAnd}
 use lib.Count.{trailingZeros}
 use Rattle.plain.specs.At.{at}
 use Rattle.sets.specs.Greatest.{greatest}
@@ -21,33 +21,31 @@ abbrev μ-loop : tie.MeasureT-loop
 loop-holds : tie.Need-loop-holds Inv-loop μ-loop
 loop-holds c = omega arith
 
+-- the lowest member that is left
+low : (c : tie.In-loop Inv-loop μ-loop) → let l = c .before .loop .left in Walk l (trailingZeros 64 l) (bitAnd l (l - 1))
+low c = walk (c .before .loop .left) (c .loop-test .taken) (c .before .loop .inv .0)
+
 cast-p : tie.Need-cast-p Inv-loop μ-loop
-cast-p c = omega (arith, walk (c .before .loop .left) (c .loop-test .taken) (c .before .loop .inv .0) .lt)
+cast-p c = omega (arith, low c .lt)
 
 mul-value : tie.Need-mul-value Inv-loop μ-loop
-mul-value c = omega (arith, walk (c .before .loop .left) (c .loop-test .taken) (c .before .loop .inv .0) .lt)
+mul-value c = omega (arith, low c .lt)
 
 element-copy-out-value : tie.Need-element-copy-out-value Inv-loop μ-loop
-element-copy-out-value c = walk (c .before .loop .left) (c .loop-test .taken) (c .before .loop .inv .0) .lt
-
--- where the two ways of the branch have met
-low : (c : tie.Joined1 Inv-loop μ-loop) → let l = c .before .before .before .loop .left in Walk l (trailingZeros 64 l) (1 * 2 ^ trailingZeros 64 l % 2 ^ 64)
-low c = walk (c .before .before .before .loop .left) (c .before .before .loop-test .taken) (c .before .before .before .loop .inv .0)
-
-shl-left : tie.Need-shl-left Inv-loop μ-loop
-shl-left c = low c .lt
+element-copy-out-value c = low c .lt
 
 sub-left : tie.Need-sub-left Inv-loop μ-loop
-sub-left c = low c .le
+sub-left c = omega arith
 
 loop-less : tie.Need-loop-less Inv-loop μ-loop
-loop-less c = omega (arith, low c .pos, low c .le)
+loop-less c = low (c .before .before) .less
 
 loop-again : tie.Need-loop-again Inv-loop μ-loop
 loop-again c =
-    let g = walk-greatest (at (c .before .before .before .before .args .values .now)) (low c) in
-    let i = c .before .before .before .loop .inv in
-    (omega arith, ⊎-elim (λ w. omega arith) (λ w. omega arith) (c .if1 .came))
+    let t = c .before .before in
+    let g = walk-greatest (at (t .before .before .args .values .now)) (low t) in
+    let i = t .before .loop .inv in
+    (omega (arith, low t .less), ⊎-elim (λ w. omega arith) (λ w. omega arith) (c .if1 .came))
 
 returns : tie.Need-returns Inv-loop μ-loop
 returns c =
@@ -65,7 +63,6 @@ greatest-of-spec =
     cast-p
     mul-value
     element-copy-out-value
-    shl-left
     sub-left
     loop-less
     loop-again

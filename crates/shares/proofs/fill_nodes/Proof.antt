@@ -10,11 +10,11 @@ use Rattle.shares.proofs.fill_nodes.Statement.{statement}
 use Rattle.shares.proofs.fill_nodes.Tie as tie
 
 abbrev Inv-loop : tie.InvT-loop
-Inv-loop out₀ offsets deadlines executions n over v₀ out v =
-    (v ≤ n) × (length out ≡ length out₀) × Tripled (at offsets) (at deadlines) (λ k. millionths (at executions k) over (at deadlines k)) out₀ v out
+Inv-loop out₀ offsets ends executions n over v₀ out v =
+    (v ≤ n) × (length out ≡ length out₀) × Tripled (at offsets) (λ k. at ends k - at offsets k) (λ k. millionths (at executions k) over (at ends k - at offsets k)) out₀ v out
 
 abbrev μ-loop : tie.MeasureT-loop
-μ-loop out₀ offsets deadlines executions n over v₀ out v = n - v
+μ-loop out₀ offsets ends executions n over v₀ out v = n - v
 
 loop-holds : tie.Need-loop-holds Inv-loop μ-loop
 loop-holds c = (omega arith, refl, tripled-none)
@@ -27,6 +27,15 @@ mul-d c = omega arith
 
 element-copy-out-d : tie.Need-element-copy-out-d Inv-loop μ-loop
 element-copy-out-d c = omega arith
+
+mul-d-2 : tie.Need-mul-d-2 Inv-loop μ-loop
+mul-d-2 c = omega arith
+
+element-copy-out-d-2 : tie.Need-element-copy-out-d-2 Inv-loop μ-loop
+element-copy-out-d-2 c = omega arith
+
+sub-d : tie.Need-sub-d Inv-loop μ-loop
+sub-d c = let b = c .before .before in omega (arith, b .before .before .before .pre .runs _ (b .loop-test .taken))
 
 mul-out : tie.Need-mul-out Inv-loop μ-loop
 mul-out c = omega arith
@@ -56,7 +65,7 @@ element-copy-out-density : tie.Need-element-copy-out-density Inv-loop μ-loop
 element-copy-out-density c = omega arith
 
 density-requires : tie.Need-density-requires Inv-loop μ-loop
-density-requires c κs = c .before .before .before .before .before .before .pre .each _ (omega arith)
+density-requires c κs = c .before .before .before .before .before .before .before .pre .each _ (omega arith)
 
 add-out-2 : tie.Need-add-out-2 Inv-loop μ-loop
 add-out-2 c = omega arith
@@ -75,7 +84,7 @@ loop-less c = omega arith
 
 loop-again : tie.Need-loop-again Inv-loop μ-loop
 loop-again c =
-    let l = c .before .before .before .before .before .loop in
+    let l = c .before .before .before .before .before .before .loop in
     (omega arith, simp length-set (l .inv .1), tripled-more _ _ _ (l .inv .2) (omega arith) refl refl (c .density .ensures))
 
 same-length : tie.Need-same-length Inv-loop μ-loop
@@ -94,6 +103,9 @@ fill-nodes-spec =
     mul-k
     mul-d
     element-copy-out-d
+    mul-d-2
+    element-copy-out-d-2
+    sub-d
     mul-out
     element-copy-out-out
     mul-out-2

@@ -1,60 +1,69 @@
--- `sheets::put_table` meets its contract: a refused diagram gives its line, and an accepted one the sheet of its written plan.
+-- `sheets::put_table` meets its contract: a refused table gives its line, and an accepted one the sheet of its written plan.
 use mathlib.Core.Path.{_≡_, sym, ap, _∙_}
-use lib.ListN.{length, replicate}
+use mathlib.Core.List.{List}
+use Prim.Native.Nat.{ℕ}
+use lib.ListN.{replicate}
 use native.Mathlib.Omega.{arith}
 use borrow.Author.Needs.{needs}
 use denote.Ref.{now}
-use Rattle.records.specs.declared.Outcome.{Outcome}
-use Rattle.plans.specs.Drawn.{answerOf}
-use Rattle.plans.proofs.Tests.{table-refused, table-accepted}
+use Rattle.plans.specs.Calls.{Planned, onTable, unplanned, planned}
+use Rattle.plans.specs.Words.{wordsMax, written}
+use Rattle.plans.specs.Drawn.{Totalled}
+use Rattle.plans.proofs.Tests.{on-fits}
 use Rattle.sheets.specs.Lines.{refusedLine}
 use Rattle.sheets.specs.Printed.{tableSheet}
-use Rattle.sheets.proofs.Printing.{fronts-same, printable}
+use Rattle.sheets.proofs.Printing.{fronts-same, refused-line, printable}
 use Rattle.sheets.proofs.put_table.Statement.{statement}
 use Rattle.sheets.proofs.put_table.Tie as tie
 
-diagram-of-requires : tie.Need-diagram-of-requires
-diagram-of-requires c κs = search needs
+slice-aggregate-plan-table : tie.Need-slice-aggregate-plan-table
+slice-aggregate-plan-table c = search needs
 
-enum-told : tie.Need-enum-told
-enum-told c = search needs
+accepted-requires : tie.Need-accepted-requires
+accepted-requires c κs = search needs
 
-enum-told-2 : tie.Need-enum-told-2
-enum-told-2 c = search needs
+plan-table-requires : tie.Need-plan-table-requires
+plan-table-requires c κs = (c .before .before .before .pre .1, omega arith)
 
-put-outcome-requires : tie.Need-put-outcome-requires
-put-outcome-requires c κs = search needs
+-- the words before the plan
+abbrev zeros : List ℕ
+zeros = replicate wordsMax 0
+
+-- with no refusal held, planning is the plain call
+plans : (c : tie.After-plan-table) → (let t = c .before .before .before .before .args .table in
+    (c .plan-table .result .answer ≡ onTable (unplanned zeros) (planned zeros) t .answer) × (c .plan-table .last .0 ≡ onTable (unplanned zeros) (planned zeros) t .words))
+plans c = rw (c .before .accepted .ensures) at (c .plan-table .ensures .0)
+
+put-refusal-requires : tie.Need-put-refusal-requires
+put-refusal-requires c κs = search needs
 
 same-length : tie.Need-same-length
 same-length c = search needs
 
 returns : tie.Need-returns
 returns c =
-    let p = c .before .before in
-    let e = p .before .before in
-    let d = e .before .before in
-    let told = e .enum-told2 .given .1 in
-    fronts-same (now (d .before .before .args .out))
-    (ap (λ (o : Outcome). refusedLine (answerOf o .refusal) (answerOf o .place)) told
-    ∙ sym (table-refused refusedLine tableSheet (d .before .before .args .table) (sym (d .diagram-of .ensures .0) ∙ told)))
-    (p .put-outcome .ensures)
+    let r = c .before .before in
+    let n = r .before .before in
+    let p = n .before .before .before .before in
+    let a = p .before .before .before .before .args in
+    fronts-same (now (a .out)) (refused-line zeros (a .table) (plans p .0) (n .if1 .taken)) (r .put-refusal .ensures)
 
-slice-aggregate-write-plan : tie.Need-slice-aggregate-write-plan
-slice-aggregate-write-plan c = search needs
+-- past the test the table is accepted, and its plan stands in the words
+totals : (c : tie.Else1) → (let p = c .before .before .before .before in Totalled (p .before .before .before .before .args .table) (p .plan-table .result))
+totals c = c .before .before .before .before .plan-table .ensures .1 (c .if1 .left)
 
-write-plan-requires : tie.Need-write-plan-requires
-write-plan-requires c κs = (c .before .before .before .diagram-of .ensures .1 (c .before .enum-told .given .1), omega arith)
+words : (c : tie.Else1) → (let p = c .before .before .before .before in p .plan-table .last .0 ≡ written (p .before .before .before .before .args .table) zeros)
+words c =
+    let p = c .before .before .before .before in
+    plans p .1 ∙ ap (λ (x : Planned). x .words) (on-fits (unplanned zeros) (planned zeros) (p .before .before .before .before .args .table) (totals c .table .free) (totals c .table .fits))
 
 slice-aggregate-put-sheet : tie.Need-slice-aggregate-put-sheet
 slice-aggregate-put-sheet c = search needs
 
 put-sheet-requires : tie.Need-put-sheet-requires
 put-sheet-requires c κs =
-    let w = c .before .before .before in
-    let e = w .before .before in
-    let d = e .before .before in
-    let drawn = d .diagram-of .ensures .1 (e .enum-told .given .1) in
-    (d .before .before .pre .0, printable (drawn .table) (replicate 387 0) (omega arith) (w .write-plan .ensures .1))
+    let e = c .before .before in
+    (e .before .before .before .before .before .before .before .before .pre .0, printable (totals e .table) zeros (omega arith) (words e))
 
 same-length-2 : tie.Need-same-length-2
 same-length-2 c = search needs
@@ -62,27 +71,22 @@ same-length-2 c = search needs
 returns-2 : tie.Need-returns-2
 returns-2 c =
     let p = c .before .before in
-    let w = p .before .before .before .before in
-    let e = w .before .before in
-    let d = e .before .before in
-    let told = e .enum-told .given .1 in
-    let drawn = d .diagram-of .ensures .1 told in
-    fronts-same (now (d .before .before .args .out))
-    (rw (drawn .work, drawn .path, w .write-plan .ensures .1) (sym (table-accepted refusedLine tableSheet (d .before .before .args .table) (sym (d .diagram-of .ensures .0) ∙ told))))
+    let e = p .before .before .before in
+    let a = e .before .before .before .before .before .before .before .before .args in
+    fronts-same (now (a .out))
+    (rw (totals e .work, totals e .path, words e) (sym (on-fits refusedLine tableSheet (a .table) (totals e .table .free) (totals e .table .fits))))
     (p .put-sheet .ensures)
 
 pub put-table-spec : {M : Type 1} → statement M
 put-table-spec =
     tie.close
     (tie.spec
-    diagram-of-requires
-    enum-told
-    enum-told-2
-    put-outcome-requires
+    slice-aggregate-plan-table
+    accepted-requires
+    plan-table-requires
+    put-refusal-requires
     same-length
     returns
-    slice-aggregate-write-plan
-    write-plan-requires
     slice-aggregate-put-sheet
     put-sheet-requires
     same-length-2

@@ -1,5 +1,5 @@
 -- `ways::order_of` meets its contract: at every turn the list is an order of the settled nodes, and the word holds the others.
-use mathlib.Core.Path.{_≡_, refl}
+use mathlib.Core.Path.{_≡_}
 use Prim.Native.Nat.{_*_, _%_, _^_, _<_}
 use native.Mathlib.Omega.{arith}
 use borrow.Author.Needs.{needs}
@@ -12,16 +12,16 @@ use Rattle.ways.proofs.order_of.Statement.{statement}
 use Rattle.ways.proofs.order_of.Tie as tie
 
 abbrev Inv-loop : tie.InvT-loop
-Inv-loop parents n list₀ count₀ unsettled₀ list count unsettled = Settling parents n count list unsettled
+Inv-loop list₀ parents n count₀ unsettled₀ list count unsettled = Settling parents n count list unsettled
 
 abbrev μ-loop : tie.MeasureT-loop
-μ-loop parents n list₀ count₀ unsettled₀ list count unsettled = unsettled
+μ-loop list₀ parents n count₀ unsettled₀ list count unsettled = unsettled
 
 all-nodes-requires : tie.Need-all-nodes-requires Inv-loop μ-loop
 all-nodes-requires c κs = omega arith
 
 loop-holds : tie.Need-loop-holds Inv-loop μ-loop
-loop-holds c = rw (c .all-nodes .ensures) (settle-none _ _ _ refl)
+loop-holds c = rw (c .all-nodes .ensures) (settle-none _ _ _ (c .before .pre .2))
 
 ready-requires : tie.Need-ready-requires Inv-loop μ-loop
 ready-requires c κs = search needs
@@ -46,8 +46,8 @@ word c = one-shl (c .before .ready .result) (low c)
 mul-list : tie.Need-mul-list Inv-loop μ-loop
 mul-list c = omega (arith, settle-room (c .before .before .before .loop .inv) (next c))
 
-array-write-list : tie.Need-array-write-list Inv-loop μ-loop
-array-write-list c = omega (arith, settle-room (c .before .before .before .loop .inv) (next c))
+element-write-list : tie.Need-element-write-list Inv-loop μ-loop
+element-write-list c = omega (arith, settle-room (c .before .before .before .loop .inv) (next c))
 
 add-count : tie.Need-add-count Inv-loop μ-loop
 add-count c = omega (arith, settle-room (c .before .before .before .loop .inv) (next c))
@@ -81,7 +81,7 @@ order-of-spec =
     ready-requires
     returns
     mul-list
-    array-write-list
+    element-write-list
     add-count
     shl-unsettled
     sub-unsettled

@@ -1,7 +1,8 @@
 -- `ways::ready` meets its contract: the walk meets the unsettled nodes from the lowest up, so the first that has no unsettled parent is the
 -- answer, and every ready node is among those still left.
-use Prim.Native.Nat.{_*_, _%_, _^_}
+use Prim.Native.Nat.{_-_}
 use native.Mathlib.Omega.{arith}
+use lib.Bits.{bitAnd}
 use lib.Count.{trailingZeros}
 use Rattle.sets.proofs.Walks.{Walk, walk}
 use Rattle.ways.proofs.Seeking.{Seeking, seek-start, seek-found, seek-on, seek-none}
@@ -18,17 +19,14 @@ loop-holds : tie.Need-loop-holds Inv-loop μ-loop
 loop-holds c = seek-start (omega arith)
 
 -- the lowest node that is left
-low : (c : tie.In-loop Inv-loop μ-loop) → let l = c .before .loop .left in Walk l (trailingZeros 64 l) (1 * 2 ^ trailingZeros 64 l % 2 ^ 64)
+low : (c : tie.In-loop Inv-loop μ-loop) → let l = c .before .loop .left in Walk l (trailingZeros 64 l) (bitAnd l (l - 1))
 low c = walk (c .before .loop .left) (c .loop-test .taken) (c .before .loop .inv .low)
 
 cast-v : tie.Need-cast-v Inv-loop μ-loop
 cast-v c = omega (arith, low c .lt)
 
-shl-left : tie.Need-shl-left Inv-loop μ-loop
-shl-left c = low c .lt
-
 sub-left : tie.Need-sub-left Inv-loop μ-loop
-sub-left c = low c .le
+sub-left c = omega arith
 
 mul-if1 : tie.Need-mul-if1 Inv-loop μ-loop
 mul-if1 c = omega (arith, low c .lt)
@@ -40,7 +38,7 @@ returns : tie.Need-returns Inv-loop μ-loop
 returns c = let t = c .before .before in seek-found (t .before .loop .inv) (low t) (c .if1 .taken)
 
 loop-less : tie.Need-loop-less Inv-loop μ-loop
-loop-less c = let t = c .before .before in omega (arith, low t .pos, low t .le)
+loop-less c = low (c .before .before) .less
 
 loop-again : tie.Need-loop-again Inv-loop μ-loop
 loop-again c = let t = c .before .before in seek-on (t .before .loop .inv) (low t) (omega arith) (c .if1 .left)
@@ -56,7 +54,6 @@ ready-spec =
     μ-loop
     loop-holds
     cast-v
-    shl-left
     sub-left
     mul-if1
     element-copy-out-if1
