@@ -1,4 +1,6 @@
-/* The planner's four calls. Every call returns for every input; a refusal changes nothing that was lent. */
+/* The planner's four calls. A call returns for every content of what it is lent; a refusal changes nothing. The caller
+ * sees to it that each pointer is aligned, not NULL and valid for its length, that what is lent to one call does not
+ * overlap, and that no other thread uses it meanwhile. */
 #ifndef PLANNER_H
 #define PLANNER_H
 
@@ -12,7 +14,11 @@
 #define PLANNER_ROWS 16
 
 /* What a call answers. refusal 0: accepted, and value holds what the call returns. Otherwise refusal is the number of
- * the rule that was broken, place the byte of the record that it was met at (0 where the rule has no place), value 0. */
+ * the rule that was broken, place where in the record it was met (for 1 the record's length, from 10 on 0), value 0.
+ * Refusals: 1 the record ends too early; 2 a number is too long or padded; 3 edition, 4 id, 5 period, 6 node count,
+ * 7 execution out of range; 8 a parent count or parent out of range or order; 9 bytes follow the record; 10 a node waits
+ * for itself, over others or not; 11 the path is longer than the period; 12 the id stands already; 13 no row is free;
+ * 14 no task with this id stands; 15 no such number of cores; 16 too few words; 17 the board isn't sound. */
 struct planner_answer {
     uint64_t refusal;
     uint64_t place;

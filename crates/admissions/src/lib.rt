@@ -14,7 +14,6 @@ ghost use Rattle.tables.specs.Range.{InRange};
 ghost use Rattle.plans.specs.Words.{wordsMax};
 ghost use Rattle.plans.specs.Calls.{onTable};
 ghost use Rattle.boards.specs.Row.{rowsMax};
-ghost use Rattle.boards.specs.Change.{unchanged};
 ghost use Rattle.admissions.specs.Admission.{notAdmitted, entered, admission, noBoard};
 
 // What admitting answers where the board doesn't have 16 rows.
@@ -27,19 +26,8 @@ pub fn no_board(words: usize) -> Answer
     Answer::refused(Refusal::UNSOUND_BOARD, 0)
 }
 
-// A refusal: every row stays as it was.
-fn not_admitted(board: Board, answer: Answer) -> Change
-    ensures { λ r. ⌜ r ≡ unchanged (board .rows) answer ⌝ }
-{
-    let first = board.rows[0];
-    Change {
-        at: 0,
-        row: first,
-        answer,
-    }
-}
-
-// A task that was read. Its place is found first, since 12 and 13 look only at its id; they are held back until 10 and 11 are tested, and the words are written only where none of the four is given.
+// A task that was read. Its row is found first, since 12 and 13 look only at its id.
+// They are held back until 10 and 11 are tested, and the words are written only where none of the four is given.
 fn admit_table(words: &mut [u64], table: TaskTable, board: Board) -> Change
     requires { ⌜ InRange table × (wordsMax ≤ length (now words)) ⌝ }
     ensures { λ r. ⌜ (r ≡ onTable (notAdmitted (board .rows) (now (words .entry))) (entered (board .rows) (now (words .entry))) table .change)
@@ -57,18 +45,18 @@ fn admit_table(words: &mut [u64], table: TaskTable, board: Board) -> Change
             largest: 0,
         },
     );
-    let place = found.answer;
-    let planning = plans::plan_table(words, table, place);
+    let held = found.answer;
+    let planning = plans::plan_table(words, table, held);
     let answer = planning.answer;
     if answer.refusal != 0 {
-        return not_admitted(board, answer);
+        return boards::unchanged(board, answer);
     }
     let from = answer.value as usize - 3 * n;
     let row = boards::figures_of(&words[from..], id, n);
     Change {
         at: found.at,
         row,
-        answer: place,
+        answer: held,
     }
 }
 
@@ -79,15 +67,15 @@ pub fn admission(bytes: &[u8], words: &mut [u64], board: Board) -> Change
         × (now (words .exit) ≡ admission (now (bytes .entry)) (now (words .entry)) (board .rows) .words) ⌝ }
 {
     if words.len() < WORDS_MAX {
-        return not_admitted(board, Answer::refused(Refusal::FEW_WORDS, 0));
+        return boards::unchanged(board, Answer::refused(Refusal::FEW_WORDS, 0));
     }
     if !boards::is_sound(board) {
-        return not_admitted(board, Answer::refused(Refusal::UNSOUND_BOARD, 0));
+        return boards::unchanged(board, Answer::refused(Refusal::UNSOUND_BOARD, 0));
     }
     let reading = records::read_record(bytes);
     let outcome = reading.outcome;
     let Outcome::Accepted = outcome else {
-        return not_admitted(board, plans::answer_of(outcome));
+        return boards::unchanged(board, plans::answer_of(outcome));
     };
     admit_table(words, reading.table, board)
 }

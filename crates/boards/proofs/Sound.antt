@@ -1,10 +1,10 @@
 -- A sound board by its test: the test goes through the rows and asks of each what the statement says of it, so the one holds just where the
 -- other does.
-use mathlib.Core.Path.{_≡_, refl, sym, _∙_}
+use mathlib.Core.Path.{_≡_, refl, sym, subst, _∙_}
 use mathlib.Core.Logic.{_⊎_, inl, inr, ⊎-elim}
-use mathlib.Core.Bool.{Bool, true, false}
+use mathlib.Core.Bool.{true, false}
 use mathlib.Core.List.{List}
-use Prim.Native.Nat.{ℕ, _+_, _-_, _*_, _≤_, _<_, zero-le}
+use Prim.Native.Nat.{ℕ, _+_, _-_, _*_, _%_, _≤_, _<_, zero-le}
 use native.Mathlib.Nat.{le-trans, mul-le-mul}
 use native.Mathlib.Omega.{arith}
 use lib.Dec.{eqb}
@@ -14,12 +14,12 @@ use Rattle.plain.specs.Pick.{pick}
 use Rattle.plain.specs.Sums.{sumTo, maxTo}
 use Rattle.plain.proofs.Sums.{sumTo-le, maxTo-le}
 use Rattle.tables.specs.Limits.{idMax, countMax, densityMax, million}
+use Rattle.sets.specs.Member.{Member}
 use Rattle.boards.specs.declared.Row.{Row}
 use Rattle.boards.specs.Row.{freeRow, rowsMax, rowAt}
 use Rattle.boards.specs.Sound.{Standing, Sound, between, isFree, isStanding, isSoundRow, isNewAmong, isNew, isSound, allTo}
-use Rattle.boards.specs.Find.{placeOf}
 use Rattle.boards.specs.Verdict.{sumOf, largestOf, verdict}
-use Rattle.boards.proofs.Tests.{true-false, not-held, pick-case, both-true, true-both, between-true, true-between, allTo-true, true-allTo, allTo-same}
+use Rattle.boards.proofs.Tests.{true-false, pick-case, both-true, true-both, between-true, true-between, allTo-true, true-allTo, allTo-same}
 
 -- a free row
 pub free-test : (r : Row) → isFree r ≡ true → r ≡ freeRow
@@ -94,6 +94,10 @@ test-new rows k f =
 pub new-among : (rows : List Row) (ids : ℕ → ℕ) (k : ℕ) → ((i : ℕ) → i ≤ k → ids i ≡ rowAt rows i .id) → isNewAmong ids k ≡ isNew rows k
 unfolding isNew
 new-among rows ids k e = rw (e k (omega arith), allTo-same k (λ i. pick (eqb (ids i) (rowAt rows k .id)) false true) (λ i. pick (eqb (rowAt rows i .id) (rowAt rows k .id)) false true) (λ i l. rw (e i (omega arith))))
+
+-- a row is new whose id has a remainder that no earlier id has
+pub new-apart : (rows : List Row) (k s : ℕ) → ((i : ℕ) → i < k → Member (rowAt rows i .id % 64) s) → (Member (rowAt rows k .id % 64) s → ⊥) → isNew rows k ≡ true
+new-apart rows k s has n = test-new rows k (λ i h q. absurd (n (subst (λ (x : ℕ). Member (x % 64) s) q (has i h))))
 
 -- the whole test
 pub sound-test : (rows : List Row) → isSound rows ≡ true → Sound rows

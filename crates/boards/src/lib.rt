@@ -6,9 +6,8 @@ ghost use mathlib.Core.Path.{_≡_};
 ghost use Prim.Native.Nat.{ℕ, _+_, _*_, _<_, _≤_};
 ghost use lib.ListN.{length, replicate, set};
 ghost use Rattle.plain.specs.At.{at};
-ghost use Rattle.refusals.specs.Answer.{refused};
 ghost use Rattle.tables.specs.Limits.{countMax, densityMax};
-ghost use Rattle.boards.specs.Row.{freeRow, rowsMax, rowAt, figures};
+ghost use Rattle.boards.specs.Row.{freeRow, rowsMax, figures};
 ghost use Rattle.boards.specs.Sound.{isFree, between, isStanding, isSoundRow, isNewAmong, isSound, Sound};
 ghost use Rattle.boards.specs.Find.{placeOf};
 ghost use Rattle.boards.specs.Verdict.{sumOf, largestOf, verdict, coresMax};
@@ -158,11 +157,12 @@ fn is_new(ids: &[u64; 16], k: usize) -> bool
     true
 }
 
-// Whether every row is, and no id stands twice. The ids are kept on the way: the test of each against the earlier ones is then no walk over whole rows.
+// Whether every row is sound, and no id stands twice. An id whose remainder by 64 is new is new; any other is compared with the ids before it.
 pub fn is_sound(board: Board) -> bool
     ensures { λ r. ⌜ r ≡ isSound (board .rows) ⌝ }
 {
     let mut ids = [0u64; ROWS];
+    let mut remainders: u64 = 0;
     let mut k: usize = 0;
     while k < ROWS {
         let row = board.rows[k];
@@ -170,9 +170,11 @@ pub fn is_sound(board: Board) -> bool
             return false;
         }
         ids[k] = row.id;
-        if !is_new(&ids, k) {
+        let remainder = (row.id % 64) as usize;
+        if sets::is_member(remainders, remainder) && !is_new(&ids, k) {
             return false;
         }
+        remainders = sets::with_member(remainders, remainder);
         k += 1;
     }
     true
@@ -220,15 +222,15 @@ fn verdict_for(board: Board, cores: u64) -> bool
     sum + (cores - 1) * largest <= cores * MILLION
 }
 
-// A refusal that leaves every row as it was.
-fn unchanged(board: Board, refusal: u64) -> Change
-    ensures { λ r. ⌜ r ≡ unchanged (board .rows) (refused refusal 0) ⌝ }
+// A refusal: every row stays as it was.
+pub fn unchanged(board: Board, answer: Answer) -> Change
+    ensures { λ r. ⌜ r ≡ unchanged (board .rows) answer ⌝ }
 {
     let first = board.rows[0];
     Change {
         at: 0,
         row: first,
-        answer: Answer::refused(refusal, 0),
+        answer,
     }
 }
 
@@ -238,7 +240,7 @@ pub fn placed(board: Board, row: Row) -> Change
 {
     let standing = place_of(board, row.id);
     if standing < ROWS {
-        return unchanged(board, Refusal::ID_STANDS);
+        return unchanged(board, Answer::refused(Refusal::ID_STANDS, 0));
     }
     let at = place_of(board, 0);
     if at < ROWS {
@@ -248,7 +250,7 @@ pub fn placed(board: Board, row: Row) -> Change
             answer: Answer::accepted(at as u64),
         }
     } else {
-        unchanged(board, Refusal::BOARD_FULL)
+        unchanged(board, Answer::refused(Refusal::BOARD_FULL, 0))
     }
 }
 
@@ -257,10 +259,10 @@ pub fn withdrawn(board: Board, id: u64) -> Change
     ensures { λ r. ⌜ (r ≡ withdrawn (board .rows) id) × (r .at < rowsMax) ⌝ }
 {
     if !is_sound(board) {
-        return unchanged(board, Refusal::UNSOUND_BOARD);
+        return unchanged(board, Answer::refused(Refusal::UNSOUND_BOARD, 0));
     }
     if id == 0 {
-        return unchanged(board, Refusal::NOT_STANDING);
+        return unchanged(board, Answer::refused(Refusal::NOT_STANDING, 0));
     }
     let at = place_of(board, id);
     if at < ROWS {
@@ -270,7 +272,7 @@ pub fn withdrawn(board: Board, id: u64) -> Change
             answer: Answer::accepted(at as u64),
         }
     } else {
-        unchanged(board, Refusal::NOT_STANDING)
+        unchanged(board, Answer::refused(Refusal::NOT_STANDING, 0))
     }
 }
 

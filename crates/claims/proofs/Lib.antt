@@ -6,6 +6,7 @@ pub mod Untouched
 pub mod Rules
 pub mod Written
 pub mod OneAnswer
+pub mod Diagram
 pub mod Kept
 mod Standing
 mod Pairing

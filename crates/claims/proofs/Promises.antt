@@ -4,6 +4,7 @@ use Rattle.claims.proofs.Untouched as untouched
 use Rattle.claims.proofs.Rules as rules
 use Rattle.claims.proofs.Written as written
 use Rattle.claims.proofs.OneAnswer as one
+use Rattle.claims.proofs.Diagram as diagrams
 use Rattle.claims.proofs.Kept as kept
 use Rattle.claims.proofs.Day as days
 use Rattle.claims.proofs.Starred as starred
@@ -25,6 +26,7 @@ promises = record {
   admit-writes = written.admit-writes;
   withdraw-writes = written.withdraw-writes;
   one-answer = one.one-answer;
+  tables-timed = diagrams.tables-timed;
   plan-kept = kept.plan-kept;
   admit-kept = kept.admit-kept;
   day = days.day;

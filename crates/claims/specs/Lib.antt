@@ -2,6 +2,7 @@ pub mod Untouched
 pub mod Rules
 pub mod Written
 pub mod OneAnswer
+pub mod Diagram
 pub mod Kept
 pub mod Calls
 pub mod Day

@@ -3,6 +3,7 @@ use Rattle.claims.specs.Untouched.{PlanUntouched, AdmitUntouched, Withdr
 use Rattle.claims.specs.Rules.{ReaderOneToNine, PlanOnlyWhen, AdmitOnlyWhen, WithdrawOnlyWhen, AskOnlyWhen}
 use Rattle.claims.specs.Written.{PlanWrites, AdmitWrites, WithdrawWrites}
 use Rattle.claims.specs.OneAnswer.{OneAnswer}
+use Rattle.claims.specs.Diagram.{TablesTimed}
 use Rattle.claims.specs.Kept.{PlanKept, AdmitKept}
 use Rattle.claims.specs.Day.{Day}
 use Rattle.claims.specs.Starred.{Starred}
@@ -26,6 +27,8 @@ pub record Promises : Type 0 where
   pub withdraw-writes : WithdrawWrites
   -- each call's contract allows one answer
   pub one-answer : OneAnswer
+  -- every accepted table's starts, cuts and offsets are those of document 01
+  pub tables-timed : TablesTimed
   -- demand 3: every accepted plan, and the board after any list of calls
   pub plan-kept : PlanKept
   pub admit-kept : AdmitKept

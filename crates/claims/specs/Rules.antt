@@ -13,8 +13,7 @@ use Rattle.records.specs.declared.Outcome.the-variants.{Accepted}
 use Rattle.records.specs.Reading.{readingOf}
 use Rattle.ways.specs.Reaches.{Loops}
 use Rattle.plans.specs.Diagram.{path, segmentCount}
-use Rattle.plans.specs.Drawn.{answerOf}
-use Rattle.plans.specs.Calls.{planCall}
+use Rattle.plans.specs.Calls.{answerOf, planCall}
 use Rattle.boards.specs.declared.Row.{Row}
 use Rattle.boards.specs.Row.{freeRow, rowAt}
 use Rattle.boards.specs.Sound.{Sound}

@@ -1,3 +1,2 @@
-pub mod Lines
 mod Placing
 mod Lining

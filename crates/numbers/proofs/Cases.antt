@@ -26,16 +26,17 @@ clash z = absurd (omega arith)
 pub part-from : (a : ℕ) (s : List ℕ) → take (length s - a) (drop a s) ≡ drop a s
 part-from a s = take-all (length s - a) (drop a s) (omega (arith, length-drop a s))
 
--- a number of one byte: none is there, it is the last, it is not
+-- a number's first byte: none is there, it is the last, it is not
 pub none : (s : List ℕ) → length s ≡ 0 → number 0 s ≡ Ended
 unfolding number
 none [] h = refl
 none (b ∷ s) h = absurd (omega arith)
 
-pub last : (s : List ℕ) (b : ℕ) → 0 < length s → b ≡ at s 0 → b < 128 → number 0 s ≡ Value b 1
+pub last : (more : ℕ) (s : List ℕ) (b : ℕ) → 0 < length s → b ≡ at s 0 → b < 128 → number more s ≡ Value b 1
 unfolding number
-last [] b h e l = absurd (omega arith)
-last (x ∷ s) b h e l = rw (← e, lt-ltb b 128 l)
+last more [] b h e l = absurd (omega arith)
+last zero (x ∷ s) b h e l = rw (← e, lt-ltb b 128 l)
+last (suc more) (x ∷ s) b h e l = rw (← e, lt-ltb b 128 l)
 
 pub not-last : (s : List ℕ) (b : ℕ) → 0 < length s → b ≡ at s 0 → 128 ≤ b → number 0 s ≡ TooLong
 unfolding number
@@ -90,3 +91,20 @@ before-cut b (Value v n) h = absurd (⊎-elim (λ e. omega arith) (λ e. omega a
 before-cut b Ended h = refl
 before-cut b TooLong h = refl
 before-cut b (NotShortest v n) h = absurd (⊎-elim (λ e. omega arith) (λ e. omega arith) h)
+
+-- a byte with its top bit set before a number that is not 0; so a number of two bytes, and of three
+longer : (more a x : ℕ) (s : List ℕ) (v n : ℕ) → a ≡ x → 128 ≤ a → number more s ≡ Value v n → 0 < v →
+    number (suc more) (x ∷ s) ≡ Value (a % 128 + 128 * v) (n + 1)
+unfolding number
+longer more a x s v n e l d z = rw (← e, le-ltb a 128 l, d) (before-some a v n (λ q. omega arith))
+
+pub two-bytes : (more : ℕ) (s : List ℕ) (a b : ℕ) → 1 < length s → a ≡ at s 0 → b ≡ at s 1 → 128 ≤ a → 0 < b → b < 128 →
+    number (suc more) s ≡ Value (a % 128 + 128 * b) 2
+two-bytes more [] a b h e f p z l = absurd (omega arith)
+two-bytes more (x ∷ s) a b h e f p z l = longer more a x s b 1 e p (last more s b (omega arith) f l) z
+
+pub three-bytes : (more : ℕ) (s : List ℕ) (a b d : ℕ) → 2 < length s → a ≡ at s 0 → b ≡ at s 1 → d ≡ at s 2 →
+    128 ≤ a → 128 ≤ b → 0 < d → d < 128 → number (suc (suc more)) s ≡ Value (a % 128 + 128 * (b % 128 + 128 * d)) 3
+three-bytes more [] a b d h e f g p q z l = absurd (omega arith)
+three-bytes more (x ∷ s) a b d h e f g p q z l =
+    longer (suc more) a x s _ 2 e p (two-bytes more s b d (omega arith) f g q z l) (omega arith)

@@ -15,7 +15,8 @@ pub enum Number {
 // A record's number has at most this many bytes after its first.
 const RECORD_MORE: u64 = 3;
 
-fn wide(x: u8) -> u64
+// A byte as a word.
+pub fn wide(x: u8) -> u64
     ensures { λ r. ⌜ r ≡ x ⌝ }
 {
     x as u64
@@ -80,13 +81,32 @@ pub fn number_within(rest: &[u8], more: u64) -> Number
     before(wide(rest[0]), number_within(&rest[1..], more - 1))
 }
 
-// A record's number at the front of rest. Most are one byte, so that is tried first.
+// A record's number at the front of rest. Nearly all are at most three bytes, and more numbers follow, so that is tried first.
 pub fn read_number(rest: &[u8]) -> Number
     ensures { λ r. ⌜ r ≡ number recordMore (now (rest .entry)) ⌝ }
 {
-    let first = one_byte(rest);
-    let Number::TooLong = first else {
-        return first;
-    };
+    if 2 < rest.len() {
+        let first = wide(rest[0]);
+        if first < 128 {
+            return Number::Value {
+                value: first,
+                length: 1,
+            };
+        }
+        let second = wide(rest[1]);
+        if 0 < second && second < 128 {
+            return Number::Value {
+                value: first % 128 + 128 * second,
+                length: 2,
+            };
+        }
+        let third = wide(rest[2]);
+        if 128 <= second && 0 < third && third < 128 {
+            return Number::Value {
+                value: first % 128 + 128 * (second % 128 + 128 * third),
+                length: 3,
+            };
+        }
+    }
     number_within(rest, RECORD_MORE)
 }

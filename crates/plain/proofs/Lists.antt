@@ -2,7 +2,7 @@
 -- front reads as the rule below the loop's counter and as before from there on.
 use mathlib.Core.Path.{_≡_, refl, sym, ap, _∙_}
 use mathlib.Core.Logic.{_⊎_, inl, inr}
-use mathlib.Core.List.{List, [], _∷_}
+use mathlib.Core.List.{List}
 use Prim.Native.Nat.{ℕ, zero, suc, _+_, _≤_, _<_}
 use native.Mathlib.Nat.{le-of-suc-le-suc, not-suc-le-zero}
 use native.Mathlib.Decide.{decLt}
@@ -70,10 +70,3 @@ fill-more {f} {g} {m} {v} {out} x l e i = record {
 
     ne′ : (w : ℕ) → v + 1 ≤ w → w ≡ v → ⊥
     ne′ w h q = omega arith
-
--- after the last
-pub fill-all : {f g : ℕ → ℕ} {m v : ℕ} {out : List ℕ} → Filled f g m v out → ((w : ℕ) → v ≤ w → g w ≡ f w) → (w : ℕ) → at out w ≡ f w
-fill-all {f} {g} {m} {v} {out} i same w = elim (decLt w v) [
-  | yes h ↦ i .done w h
-  | no h ↦ (let l : v ≤ w = omega arith in i .rest w l ∙ same w l)
-]

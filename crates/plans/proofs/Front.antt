@@ -2,13 +2,12 @@
 -- past the segments is as it was lent.
 use mathlib.Core.Path.{_≡_, refl, sym, ap, _∙_}
 use mathlib.Core.List.{List, [], _∷_, _++_, append-assoc}
-use Prim.Native.Nat.{ℕ, zero, suc, _+_, _*_, _≤_, _<_}
+use Prim.Native.Nat.{ℕ, _+_, _*_, _≤_}
 use native.Mathlib.Omega.{arith}
 use lib.ListN.{length, set, take, drop, length-take, length-drop, length-append}
 use lib.Seq.{ext-getD, getD-drop, drop-at, take-at, drop-drop}
 use Rattle.tables.specs.declared.TaskTable.{TaskTable}
 use Rattle.segments.specs.Words.{CutWords}
-use Rattle.shares.specs.declared.Deal.{Deal}
 use Rattle.shares.specs.Triples.{triples}
 use Rattle.shares.specs.Written.{Numbered}
 use Rattle.shares.proofs.Edges.{Holds}

@@ -1,16 +1,15 @@
 -- Every accepted table's plan keeps what demand 3 says. The period and the work are shared out because the three share cases are made so; a
 -- node's deadline is a sum over its segments, each at least half its length; and offsets and deadlines are the timing diagram in stretched
 -- time, which ends at the period.
-use mathlib.Core.Path.{_≡_, refl, sym, ap, _∙_}
+use mathlib.Core.Path.{_≡_, sym}
 use Prim.Native.Nat.{ℕ, _+_, _*_, _≤_, _<_}
-use native.Mathlib.Nat.{le-trans, mul-comm}
+use native.Mathlib.Nat.{mul-comm}
 use native.Mathlib.Omega.{arith}
 use Rattle.plain.specs.At.{at, tab}
 use Rattle.plain.specs.Sums.{sumTo}
 use Rattle.plain.proofs.Lists.{at-tab}
 use Rattle.sets.specs.Member.{Member}
 use Rattle.tables.specs.declared.TaskTable.{TaskTable}
-use Rattle.ways.specs.Ways.{begins, ends}
 use Rattle.ways.proofs.Reaches.{parent-lt}
 use Rattle.ways.proofs.Ways.{ends-begins, parent-ends}
 use Rattle.segments.specs.Share.{by}

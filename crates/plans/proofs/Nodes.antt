@@ -2,8 +2,8 @@
 -- offset and deadline in stretched time; and the part that is filled stands behind the front in the whole.
 use mathlib.Core.Path.{_≡_, refl, sym, ap, _∙_}
 use mathlib.Core.List.{List, [], _∷_, _++_, append-assoc, append-nil}
-use Prim.Native.Nat.{ℕ, suc, _+_, _-_, _*_, _^_, _≤_, _<_}
-use native.Mathlib.Nat.{le-trans, le-refl}
+use Prim.Native.Nat.{ℕ, suc, _+_, _-_, _*_, _≤_, _<_}
+use native.Mathlib.Nat.{le-refl}
 use native.Mathlib.Omega.{arith}
 use lib.ListN.{length, take, drop, length-drop, take-append-drop}
 use lib.Seq.{take-all, drop-drop, drop-length}
@@ -25,12 +25,12 @@ use Rattle.shares.proofs.Bounds.{over-high, whole-high, density-in}
 use Rattle.shares.proofs.Edges.{Holds, edge-is, numerators-are, stretched-is}
 use Rattle.shares.proofs.Triples.{triples-hold, triples-same}
 use Rattle.plans.specs.declared.Cut.{Cut}
-use Rattle.plans.specs.Diagram.{start, finish, work, path, segmentCount, threadsIn, lengthIn}
+use Rattle.plans.specs.Diagram.{start, finish, path, segmentCount, threadsIn, lengthIn}
 use Rattle.plans.specs.Shares.{over, numeratorOf, deadline, offset, density}
 use Rattle.plans.specs.Words.{wordCount, wordsMax, frontWords, nodeWords, written}
 use Rattle.plans.specs.Accepted.{Accepted}
 use Rattle.plans.specs.Drawn.{Lined, Fronted}
-use Rattle.plans.proofs.Table.{diagram, cutting, path-latest}
+use Rattle.plans.proofs.Table.{diagram, cutting}
 use Rattle.plans.proofs.Kept.{offset-by, kept}
 
 -- the greatest numerator bounds what the segments get in all

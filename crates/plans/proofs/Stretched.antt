@@ -1,20 +1,20 @@
 -- Stretched time: with D(t) what the segments that end by t are given, a node's deadline is D(finish) - D(start), and its offset is D(start).
 -- D is monotone and D(0) is 0, so the greatest D(finish) of the parents is D of their greatest finish, which is D(start): offset plus deadline,
 -- D(finish), obeys the rule of longest ways over the deadlines, and nothing else does.
-use mathlib.Core.Path.{_≡_, refl, sym, ap, _∙_}
+use mathlib.Core.Path.{_≡_, sym, ap, _∙_}
 use mathlib.Core.Logic.{_⊎_, inl, inr, ⊎-elim}
 use mathlib.Core.List.{List}
-use Prim.Native.Nat.{ℕ, zero, suc, _+_, _≤_, _<_, max}
+use Prim.Native.Nat.{ℕ, zero, suc, _≤_, _<_, max}
 use native.Mathlib.Nat.{max-zero}
 use native.Mathlib.Omega.{arith}
 use Rattle.plain.specs.At.{at, tab}
 use Rattle.plain.proofs.Lists.{at-tab, lt-or-ge}
-use Rattle.sets.specs.Member.{bit, Member}
+use Rattle.sets.specs.Member.{bit}
 use Rattle.sets.specs.Greatest.{kept, greatest}
 use Rattle.ways.specs.Reaches.{Reaches, Tidy}
-use Rattle.ways.specs.Ways.{begins, ends, beginBy, endBy}
+use Rattle.ways.specs.Ways.{begins, ends, endBy}
 use Rattle.ways.proofs.Closure.{rank, rank-falls}
-use Rattle.ways.proofs.Ways.{at-begins, only-rule, begin-same, ends-begins, begin-is}
+use Rattle.ways.proofs.Ways.{at-begins, only-rule, ends-begins, begin-is}
 use Rattle.segments.specs.Diagram.{Diagram}
 use Rattle.segments.specs.Share.{share, by}
 use Rattle.segments.proofs.Shares.{by-mono, by-zero, share-by}

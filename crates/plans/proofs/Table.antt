@@ -1,12 +1,10 @@
 -- An accepted table has a timing diagram whose cut gives the shares what they ask: the segments' lengths sum to the path, their threads times
 -- lengths to the work, none is empty or idle, and there is one, because every node runs for some time.
-use mathlib.Core.Path.{_≡_, refl, sym, ap, _∙_}
-use Prim.Native.Nat.{ℕ, _+_, _≤_, _<_}
-use native.Mathlib.Nat.{le-trans}
+use mathlib.Core.Path.{_≡_, refl, sym, _∙_}
+use Prim.Native.Nat.{ℕ, _<_}
 use native.Mathlib.Omega.{arith}
 use Rattle.plain.specs.At.{at}
 use Rattle.tables.specs.declared.TaskTable.{TaskTable}
-use Rattle.tables.specs.Limits.{countMax}
 use Rattle.ways.specs.Reaches.{Reaches, Tidy}
 use Rattle.ways.specs.Totals.{workOf, pathOf}
 use Rattle.ways.proofs.Closure.{loops-no}

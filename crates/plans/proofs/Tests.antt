@@ -13,7 +13,6 @@ use Rattle.tables.specs.declared.TaskTable.{TaskTable}
 use Rattle.refusals.specs.declared.Refusal.{Refusal}
 use Rattle.refusals.specs.declared.Answer.{Answer}
 use Rattle.records.specs.declared.Outcome.{Outcome}
-use Rattle.records.specs.declared.Reading.{Reading}
 use Rattle.records.specs.declared.Outcome.the-variants.{Accepted, Refused}
 use Rattle.records.specs.Step.{refusal}
 use Rattle.records.specs.Reading.{readingOf}

@@ -10,7 +10,6 @@ use Rattle.refusals.specs.Answer.{accepted, refused}
 use Rattle.tables.specs.declared.TaskTable.{TaskTable}
 use Rattle.records.specs.declared.Outcome.{Outcome}
 use Rattle.records.specs.declared.Outcome.the-variants.{Accepted, Refused}
-use Rattle.records.specs.declared.Reading.{Reading}
 use Rattle.records.specs.Reading.{readingOf}
 use Rattle.ways.specs.Closure.{loops}
 use Rattle.plans.specs.Diagram.{path, segmentCount}
@@ -29,6 +28,11 @@ onReading refuse go t (Refused r) = refuse (r .number) (r .place)
 unfoldable pub onTask : {A : Type 0} → (ℕ → ℕ → A) → (TaskTable → A) → List ℕ → A
 onTask refuse go bytes = onReading refuse (onTable refuse go) (readingOf bytes .table) (readingOf bytes .outcome)
 
+-- "its number and place": what each case of an outcome is told as; an acceptance has refusal 0
+abbrev pub answerOf : Outcome → Answer
+answerOf Accepted = accepted 0
+answerOf (Refused r) = refused (r .number) (r .place)
+
 -- what planning leaves: its answer and the lent words
 pub record Planned : Type 0 where
   pub answer : Answer
@@ -42,7 +46,7 @@ unplanned words number place = record { answer = refused number place; words = w
 abbrev pub planned : List ℕ → TaskTable → Planned
 planned words t = record { answer = accepted (wordCount (segmentCount t) (t .count)); words = written t words }
 
--- the same, where the caller holds no refusal that comes after 10 and 11, as 12 and 13 do
+-- 12 and 13, which the caller holds, come after 10 and 11: a held refusal goes out with the words untouched, else the plan is written
 abbrev pub plannedUnless : Answer → List ℕ → TaskTable → Planned
 plannedUnless held words t = pick (eqb (held .refusal) 0) (planned words t) (record { answer = held; words = words })
 

@@ -5,17 +5,14 @@ use Prim.Native.Nat.{ℕ, _+_, _*_, _≤_}
 use lib.ListN.{length, take}
 use Rattle.plain.specs.At.{at}
 use Rattle.tables.specs.declared.TaskTable.{TaskTable}
-use Rattle.refusals.specs.declared.Answer.{Answer}
-use Rattle.refusals.specs.Answer.{accepted, refused}
 use Rattle.records.specs.declared.Outcome.{Outcome}
 use Rattle.records.specs.declared.Outcome.the-variants as outcome
 use Rattle.records.specs.Step.{refusal}
 use Rattle.lineups.specs.LinedUp.{LinedUp}
 use Rattle.plans.specs.declared.Drawing.{Drawing}
 use Rattle.plans.specs.declared.Planning.{Planning}
-use Rattle.plans.specs.Diagram.{start, finish, work, path}
+use Rattle.plans.specs.Diagram.{start, finish, work, path, segmentCount}
 use Rattle.plans.specs.declared.Cut.{Cut}
-use Rattle.plans.specs.Diagram.{segmentCount}
 use Rattle.plans.specs.Shares.{over}
 use Rattle.plans.specs.Words.{wordsMax, frontWords}
 use Rattle.plans.specs.Accepted.{Accepted}
@@ -24,11 +21,6 @@ use Rattle.plans.specs.Calls.{onTable}
 -- acceptance, or the refusal of a table: 10, 11
 abbrev pub outcomeOf : TaskTable → Outcome
 outcomeOf t = onTable (λ number place. outcome.Refused (refusal number place)) (λ _. outcome.Accepted) t
-
--- the answer to a refusal
-abbrev pub answerOf : Outcome → Answer
-answerOf outcome.Accepted = accepted 0
-answerOf (outcome.Refused r) = refused (r .number) (r .place)
 
 -- S and F hold the table's starts and finishes, A and B its nodes in the order of these
 pub record Lined (t : TaskTable) (S F A B : List ℕ) : Type 0 where

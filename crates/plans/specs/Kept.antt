@@ -9,8 +9,9 @@ use Rattle.segments.specs.Share.{share}
 use Rattle.plans.specs.Diagram.{start, finish, work, segmentCount, threadsIn, lengthIn}
 use Rattle.plans.specs.Shares.{over, numeratorOf, deadline, offset}
 
--- "every accepted plan shares out exactly its period and all its work; no step is released before its parents' deadlines; none has its
--- deadline past the period; no deadline is under half its step's running time; no segment is denser than twice work over period"
+-- demand 3: "every accepted plan shares out exactly its period and all its work; no step is released before its parents' deadlines;
+-- none has its deadline past the period; no deadline is under half its step's running time; no segment is denser than twice work over
+-- period"
 pub record Kept (t : TaskTable) : Type 0 where
   pub over-some : 0 < over t
   pub whole-period : sumTo (segmentCount t) (numeratorOf t) ≡ t .period * over t

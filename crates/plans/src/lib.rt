@@ -5,15 +5,15 @@ use refusals::Refusal;
 use tables::TaskTable;
 ghost use mathlib.Core.Path.{_≡_};
 ghost use mathlib.Core.List.{_++_};
-ghost use Prim.Native.Nat.{ℕ, _+_, _*_, _≤_};
+ghost use Prim.Native.Nat.{_+_, _*_, _≤_};
 ghost use lib.ListN.{length, drop, replicate};
 ghost use Rattle.tables.specs.Range.{InRange};
 ghost use Rattle.records.specs.Step.{refusal};
 ghost use Rattle.plans.specs.Diagram.{segmentCount};
 ghost use Rattle.plans.specs.Shares.{over};
 ghost use Rattle.plans.specs.Words.{wordCount, wordsMax, frontWords, written};
-ghost use Rattle.plans.specs.Calls.{onTable, unplanned, plannedUnless, planCall};
-ghost use Rattle.plans.specs.Drawn.{outcomeOf, answerOf, Lined, Drawn, Fronted, Totalled};
+ghost use Rattle.plans.specs.Calls.{onTable, answerOf, unplanned, plannedUnless, planCall};
+ghost use Rattle.plans.specs.Drawn.{outcomeOf, Lined, Drawn, Fronted, Totalled};
 
 // The limit of specs/: the most words that a plan has.
 pub const WORDS_MAX: usize = 387;
@@ -36,7 +36,8 @@ fn undrawn(number: u64) -> Drawing
     }
 }
 
-// The timing diagram of a table, into arrays of zeros: starts, finishes, and the nodes in the order in which they start and finish. 10 where some node is reached from itself, 11 where the path is longer than the period.
+// The timing diagram of a table, into arrays of zeros: starts, finishes, and the nodes in the order in which they start and finish.
+// 10 where some node is reached from itself, 11 where the path is longer than the period.
 fn draw(
     starts: &mut [u64; 64],
     finishes: &mut [u64; 64],
@@ -166,6 +167,7 @@ pub struct Planning {
 }
 
 // The plan of a table: 10, 11, then a refusal that the caller holds, as 12 and 13 of an admission, and only then are words written.
+// A caller that holds none gives Answer::accepted(0).
 pub fn plan_table(words: &mut [u64], table: TaskTable, held: Answer) -> Planning
     requires { ⌜ InRange table × (wordsMax ≤ length (now words)) ⌝ }
     ensures { λ r. ⌜ (r .answer ≡ onTable (unplanned (now (words .entry))) (plannedUnless held (now (words .entry))) table .answer) × (now (words .exit) ≡ onTable (unplanned (now (words .entry))) (plannedUnless held (now (words .entry))) table .words) ⌝ }

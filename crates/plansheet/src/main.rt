@@ -20,6 +20,7 @@ fn main() {
     }
     let mut out = [0u8; sheets::SHEET_MAX];
     let n = sheets::sheet(&record[..got], &mut out);
+    // Always so, since every sheet fits; the part of the buffer asks for it.
     if n <= sheets::SHEET_MAX {
         io::write_all(STDOUT_FILENO, &out[..n]);
     }

@@ -1,10 +1,9 @@
 -- The definitions case by case: each test that the code makes picks one clause.
-use Prim.Native.Nat.{ℕ, zero, suc, _+_, _-_, _*_, _%_, _^_, _≤_, _<_}
+use Prim.Native.Nat.{ℕ, zero, suc, _+_, _-_, _^_, _≤_, _<_}
 use mathlib.Core.Path.{_≡_, refl, sym, ap, _∙_}
 use mathlib.Core.Logic.{_⊎_, ⊎-elim}
 use mathlib.Core.Bool.{and-false}
 use mathlib.Core.List.{List, [], _∷_}
-use native.Mathlib.Numerals.{add-one}
 use native.Mathlib.Omega.{arith}
 use lib.ListN.{length, take, drop, getD}
 use lib.Seq.{drop-cons}
@@ -16,7 +15,7 @@ use Rattle.refusals.specs.Numbers.{badForm, badExecution, badParent, bytesFollo
 use Rattle.tables.specs.declared.TaskTable.{TaskTable}
 use Rattle.tables.specs.Limits.{executionMax}
 use Rattle.numbers.proofs.Number.{the-type}
-use Rattle.numbers.proofs.Cases.{part-from, before-some}
+use Rattle.numbers.proofs.Cases.{part-from, last}
 use Rattle.numbers.specs.declared.Number.{Number}
 use Rattle.numbers.specs.declared.Number.the-variants.{Value, Ended, TooLong, NotShortest}
 use Rattle.numbers.specs.Number.{number, recordMore}
@@ -61,40 +60,10 @@ module _ (s : List ℕ) (at : ℕ) (found : Number) (e : found ≡ number record
       whole s at ≡ Refused (refusal badForm at)
   whole-bad g h = whole-is found refl ∙ bad-form (length s) at found g h
 
--- the number at a place by its first byte: the sole one, or one that stands before a number that is not 0
-module _ (s : List ℕ) (at b : ℕ) (h : at < length s) (e : b ≡ getD s at 0) where
-  sole : (more : ℕ) → b < 128 → number more (drop at s) ≡ Value b 1
-  unfolding number
-  sole zero l = rw (drop-cons s at 0 h, ← e, lt-ltb b 128 l)
-  sole (suc more) l = rw (drop-cons s at 0 h, ← e, lt-ltb b 128 l)
-
-  first-of : (more v n : ℕ) → 128 ≤ b → number more (drop (at + 1) s) ≡ Value v n → 0 < v →
-      number (suc more) (drop at s) ≡ Value (b % 128 + 128 * v) (n + 1)
-  unfolding number
-  first-of more v n l d z =
-      let t = rw (add-one at) at d in
-      rw (drop-cons s at 0 h, ← e, le-ltb b 128 l, t) (before-some b v n (λ q. omega arith))
-
--- a number of one, two and three bytes
-module _ (s : List ℕ) (at a : ℕ) (e : a ≡ getD s at 0) where
-  pub one-byte : at < length s → a < 128 → whole s at ≡ Read a (at + 1)
-  unfolding whole
-  one-byte h l = ap (stepOf (length s) at) (sole s at a h e recordMore l)
-
-  pub two-bytes : (b : ℕ) → b ≡ getD s (at + 1) 0 → at + 1 < length s → 128 ≤ a → 0 < b → b < 128 →
-      whole s at ≡ Read (a % 128 + 128 * b) (at + 2)
-  unfolding whole
-  two-bytes b f h p z l = ap (stepOf (length s) at) (first-of s at a (omega arith) e 2 b 1 p (sole s (at + 1) b h f 2 l) z)
-
-  pub three-bytes : (b d : ℕ) → b ≡ getD s (at + 1) 0 → d ≡ getD s (at + 2) 0 → at + 2 < length s → 128 ≤ a → 128 ≤ b → 0 < d → d < 128 →
-      whole s at ≡ Read (a % 128 + 128 * (b % 128 + 128 * d)) (at + 3)
-  unfolding whole
-  three-bytes b d f g h p q z l =
-      let r : at + 1 + 1 ≡ at + 2 = omega arith in
-      ap (stepOf (length s) at)
-      (first-of s at a (omega arith) e 2 (b % 128 + 128 * d) 2 p
-      (first-of s (at + 1) b (omega arith) f 1 d 1 q (rw r (sole s (at + 2) d h g 1 l)) z)
-      (omega arith))
+-- a number of one byte at a place
+pub one-byte : (s : List ℕ) (at b : ℕ) → b ≡ getD s at 0 → at < length s → b < 128 → whole s at ≡ Read b (at + 1)
+unfolding whole
+one-byte s at b e h l = rw (drop-cons s at 0 h, last recordMore (getD s at 0 ∷ drop (suc at) s) b (omega arith) e l)
 
 -- a number that is not whole; one that is, outside its range and in it
 pub ranged-refused : (broken low high : ℕ) (s : List ℕ) (at : ℕ) (r : Refusal) → whole s at ≡ Refused r →

@@ -29,12 +29,12 @@ withNode t i e w = record { id = t .id; period = t .period; count = t .count; ex
 
 -- "Nothing follows.": 9 stands at the "first such byte"
 unfoldable pub nothingFollows : TaskTable → List ℕ → ℕ → Reading
-nothingFollows t s at = pick (ltb at (length s)) (refused (refusal bytesFollow at)) (accepted t)
+nothingFollows t bytes at = pick (ltb at (length bytes)) (refused (refusal bytesFollow at)) (accepted t)
 
 -- "then for each node 0..n-1 its execution (1..65,535), its parent count (0..n) and that many parent numbers": k nodes from node i on
 unfoldable pub nodes : ℕ → ℕ → TaskTable → List ℕ → ℕ → Reading
-nodes zero i t s at = nothingFollows t s at
-nodes (suc k) i t s at =
-    andThen refused (ranged badExecution 1 executionMax s at) λ e at₁.
-    andThen refused (parentSet (t .count) s at₁) λ w at₂.
-    nodes k (i + 1) (withNode t i e w) s at₂
+nodes zero i t bytes at = nothingFollows t bytes at
+nodes (suc k) i t bytes at =
+    andThen refused (ranged badExecution 1 executionMax bytes at) λ e at₁.
+    andThen refused (parentSet (t .count) bytes at₁) λ w at₂.
+    nodes k (i + 1) (withNode t i e w) bytes at₂

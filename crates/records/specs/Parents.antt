@@ -9,13 +9,13 @@ use Rattle.records.specs.Ranged.{ranged}
 
 -- "that many parent numbers, each below n and strictly ascending": k of them, the next at least low; "a set being one 64-bit word"
 unfoldable pub parents : ℕ → ℕ → ℕ → ℕ → List ℕ → ℕ → Step
-parents zero n low set s at = Read set at
-parents (suc k) n low set s at =
-    andThen Refused (ranged badParent low (n - 1) s at) λ p next.
-    parents k n (p + 1) (set + 2 ^ p) s next
+parents zero n low set bytes at = Read set at
+parents (suc k) n low set bytes at =
+    andThen Refused (ranged badParent low (n - 1) bytes at) λ p next.
+    parents k n (p + 1) (set + 2 ^ p) bytes next
 
 -- "its parent count (0..n) and that many parent numbers"
 unfoldable pub parentSet : ℕ → List ℕ → ℕ → Step
-parentSet n s at =
-    andThen Refused (ranged badParent 0 n s at) λ k next.
-    parents k n 0 0 s next
+parentSet n bytes at =
+    andThen Refused (ranged badParent 0 n bytes at) λ k next.
+    parents k n 0 0 bytes next

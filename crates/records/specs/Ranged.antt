@@ -22,10 +22,10 @@ stepOf size at (NotShortest v n) = Refused (refusal badForm at)
 
 -- "The reader works on the rest of the record from the byte it has reached."
 unfoldable pub whole : List ℕ → ℕ → Step
-whole s at = stepOf (length s) at (number recordMore (drop at s))
+whole bytes at = stepOf (length bytes) at (number recordMore (drop at bytes))
 
 -- "before its range is tried": outside low..high it is refused by `broken`, at "that number"
 unfoldable pub ranged : ℕ → ℕ → ℕ → List ℕ → ℕ → Step
-ranged broken low high s at =
-    andThen Refused (whole s at) λ v next.
+ranged broken low high bytes at =
+    andThen Refused (whole bytes at) λ v next.
     pick (leb low v && leb v high) (Read v next) (Refused (refusal broken at))

@@ -20,14 +20,14 @@ headed id period n = record { id = id; period = period; count = n; execution = e
 
 -- "period (1..16,777,215); node count n (1..64);" and then the nodes
 unfoldable pub fromPeriod : ℕ → List ℕ → ℕ → Reading
-fromPeriod id s at =
-    andThen refused (ranged badPeriod 1 periodMax s at) λ period at₁.
-    andThen refused (ranged badCount 1 countMax s at₁) λ n at₂.
-    nodes n 0 (headed id period n) s at₂
+fromPeriod id bytes at =
+    andThen refused (ranged badPeriod 1 periodMax bytes at) λ period at₁.
+    andThen refused (ranged badCount 1 countMax bytes at₁) λ n at₂.
+    nodes n 0 (headed id period n) bytes at₂
 
 -- "A record is, in order: edition (1); task id (1..65,535);" and then the period and what is after it
 unfoldable pub readingOf : List ℕ → Reading
-readingOf s =
-    andThen refused (ranged badEdition edition edition s 0) λ _ at₁.
-    andThen refused (ranged badId 1 idMax s at₁) λ id at₂.
-    fromPeriod id s at₂
+readingOf bytes =
+    andThen refused (ranged badEdition edition edition bytes 0) λ _ at₁.
+    andThen refused (ranged badId 1 idMax bytes at₁) λ id at₂.
+    fromPeriod id bytes at₂

@@ -38,14 +38,8 @@ fn refuse(number: u64, place: usize) -> Step
     Step::Refused(Refusal { number, place })
 }
 
-fn wide(x: u8) -> u64
-    ensures { λ r. ⌜ r ≡ x ⌝ }
-{
-    x as u64
-}
-
-// The number at a place, whole, whatever its length.
-fn read_any(bytes: &[u8], at: usize) -> Step
+// The number at a place, whole.
+fn read_whole(bytes: &[u8], at: usize) -> Step
     requires { ⌜ at ≤ length (now bytes) ⌝ }
     ensures { λ r. ⌜ r ≡ whole (now (bytes .entry)) at ⌝ }
 {
@@ -60,37 +54,6 @@ fn read_any(bytes: &[u8], at: usize) -> Step
         value,
         next: at + length,
     }
-}
-
-// The number at a place, whole. Nearly all are at most three bytes, and more numbers follow, so that is tried first.
-fn read_whole(bytes: &[u8], at: usize) -> Step
-    requires { ⌜ at ≤ length (now bytes) ⌝ }
-    ensures { λ r. ⌜ r ≡ whole (now (bytes .entry)) at ⌝ }
-{
-    if 2 < bytes.len() - at {
-        let first = wide(bytes[at]);
-        if first < 128 {
-            return Step::Read {
-                value: first,
-                next: at + 1,
-            };
-        }
-        let second = wide(bytes[at + 1]);
-        if 0 < second && second < 128 {
-            return Step::Read {
-                value: first % 128 + 128 * second,
-                next: at + 2,
-            };
-        }
-        let third = wide(bytes[at + 2]);
-        if 128 <= second && 0 < third && third < 128 {
-            return Step::Read {
-                value: first % 128 + 128 * (second % 128 + 128 * third),
-                next: at + 3,
-            };
-        }
-    }
-    read_any(bytes, at)
 }
 
 // The number at a place, and only then its range.
@@ -131,13 +94,13 @@ fn short_parents(bytes: &[u8], from: usize, count: u64, n: u64) -> Run
     let mut set: u64 = 0;
     let mut at = from;
     while at < end {
-        let byte = wide(bytes[at]);
+        let byte = numbers::wide(bytes[at]);
         if byte < low || n <= byte {
             break;
         }
-        set = set + (1 << byte);
+        set += 1 << byte;
         low = byte + 1;
-        at = at + 1;
+        at += 1;
     }
     Run {
         left: (all - at) as u64,
@@ -162,10 +125,10 @@ fn read_parents(bytes: &[u8], from: usize, count: u64, n: u64) -> Step
         let Step::Read { value, next } = step else {
             return step;
         };
-        set = set + (1 << value);
+        set += 1 << value;
         low = value + 1;
         at = next;
-        left = left - 1;
+        left -= 1;
     }
     Step::Read {
         value: set,
@@ -250,7 +213,7 @@ fn read_nodes(bytes: &[u8], from: usize, head: TaskTable) -> Reading
         table.execution[i] = execution;
         table.parents[i] = parents;
         at = next;
-        i = i + 1;
+        i += 1;
     }
     nothing_follows(bytes, at, table)
 }

@@ -13,13 +13,13 @@ use Rattle.plain.specs.Sums.{sumTo}
 use Rattle.plain.proofs.Lists.{lt-or-ge}
 use Rattle.plain.proofs.Sums.{upTo-is, sum-mono, sum-ones}
 use Rattle.sets.specs.Member.{bit, Member}
-use Rattle.sets.proofs.Bits.{bit-zero, bit-and, not-mem}
+use Rattle.sets.proofs.Bits.{bit-zero, bit-and, not-mem, bit-not}
 use Rattle.sets.proofs.Sizes.{size-full, size-less, size-none}
 use Rattle.sets.proofs.Rule.{bit-past, bit-set, set-lt, Collected}
 use Rattle.segments.specs.Cut.{cut, segments}
 use Rattle.segments.specs.Running.{runs, runningIn, runningFrom, running, threads}
 use Rattle.segments.proofs.Flags.{upTo-yes, upTo-no, upTo-flag}
-use Rattle.segments.proofs.Sets.{bit-not, set-same, collected-set, set-word, size-set}
+use Rattle.segments.proofs.Sets.{set-same, collected-set, set-word, size-set}
 use Rattle.segments.proofs.Cuts.{gap}
 use Rattle.segments.proofs.Segments.{segment-up}
 

@@ -1,28 +1,17 @@
 -- Sets by a rule that says 0 or 1: a set is known by its digits, and its digits are what the rule says.
-use mathlib.Core.Path.{_≡_, refl, sym, ap, ap₂, _∙_}
+use mathlib.Core.Path.{_≡_, refl, sym, ap₂, _∙_}
 use mathlib.Core.Logic.{⊎-elim}
-use Prim.Native.Nat.{ℕ, zero, suc, _+_, _-_, _*_, _/_, _^_, _≤_, _<_}
-use native.Mathlib.Nat.{pow-suc, not-suc-le-zero, le-of-suc-le-suc, le-refl, lt-of-lt-of-le}
+use Prim.Native.Nat.{ℕ, zero, suc, _+_, _-_, _*_, _^_, _≤_, _<_}
+use native.Mathlib.Nat.{le-refl, lt-of-lt-of-le}
 use native.Mathlib.Omega.{arith}
 use lib.Pow.{pow-mono}
 use Rattle.plain.specs.Sums.{sumTo}
 use Rattle.plain.proofs.Lists.{lt-or-ge}
-use Rattle.sets.specs.Member.{bit}
 use Rattle.sets.specs.Size.{size}
 use Rattle.sets.specs.Rule.{setOf}
 use Rattle.sets.proofs.Bits.{same-bits}
 use Rattle.sets.proofs.Sizes.{ones-size}
 use Rattle.sets.proofs.Rule.{bit-past, bit-set, set-lt, ones-set, Collected}
-
--- the digits of `!s`
-pub bit-not : (d k s : ℕ) → k < d → s < 2 ^ d → bit k (2 ^ d - 1 - s) ≡ 1 - bit k s
-unfolding bit
-bit-not zero k s l h = absurd (not-suc-le-zero l)
-bit-not (suc d) zero s l h = let p = pow-suc 2 d in omega arith
-bit-not (suc d) (suc k) s l h = ap (bit k) half ∙ bit-not d k (s / 2) (le-of-suc-le-suc l) (let p = pow-suc 2 d in omega arith)
-  where
-    half : (2 ^ suc d - 1 - s) / 2 ≡ 2 ^ d - 1 - s / 2
-    half = let p = pow-suc 2 d in omega arith
 
 -- rules that agree below n make one set
 pub set-same : (n : ℕ) (f g : ℕ → ℕ) → ((v : ℕ) → v < n → f v ≡ g v) → setOf n f ≡ setOf n g

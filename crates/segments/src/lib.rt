@@ -39,7 +39,8 @@ fn reached<'a>(
     Reach { next, set }
 }
 
-// Writes threads and length of each segment to words 3 + 3j and 4 + 3j, and gives the number of segments. From the cut t those nodes run on that start by t and do not finish by t, and the next finish is the next cut.
+// Writes threads and length of each segment to words 3 + 3j and 4 + 3j, and gives the number of segments.
+// A node begun by the cut t and not ended by it runs on at least to the next finish, which is the next cut.
 pub fn cut_words<'a>(
     words: &mut [u64],
     starts: &'a [u64; 64],
@@ -58,8 +59,8 @@ pub fn cut_words<'a>(
     let mut ended = reached(finishing, finishes, n, Reach { next: 0, set: 0 }, 0);
     while ended.next < n {
         let next = ended.next;
-        let last = finishing[next];
-        let to = finishes[last];
+        let first = finishing[next];
+        let to = finishes[first];
         begun = reached(starting, starts, n, begun, t);
         let k = 3 + 3 * j;
         words[k] = sets::size_of(begun.set & !ended.set);

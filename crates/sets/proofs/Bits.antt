@@ -46,6 +46,16 @@ bit-or (suc k) a b = ap (bit k) half ∙ bit-or k (a / 2) (b / 2)
     half : bitOr a b / 2 ≡ bitOr (a / 2) (b / 2)
     half = rw (or-step a b) (omega arith)
 
+-- the digits of `!s`
+pub bit-not : (d k s : ℕ) → k < d → s < 2 ^ d → bit k (2 ^ d - 1 - s) ≡ 1 - bit k s
+unfolding bit
+bit-not zero k s l h = absurd (not-suc-le-zero l)
+bit-not (suc d) zero s l h = let p = pow-suc 2 d in omega arith
+bit-not (suc d) (suc k) s l h = ap (bit k) half ∙ bit-not d k (s / 2) (le-of-suc-le-suc l) (let p = pow-suc 2 d in omega arith)
+  where
+    half : (2 ^ suc d - 1 - s) / 2 ≡ 2 ^ d - 1 - s / 2
+    half = let p = pow-suc 2 d in omega arith
+
 -- a number put in, a number taken out
 pub bit-put-same : (p s : ℕ) → bit p s ≡ 0 → bit p (s + 2 ^ p) ≡ 1
 unfolding bit

@@ -1,7 +1,7 @@
 -- The greatest over a set: it is at least each member's value and at most any common bound, and these two fix it.
-use mathlib.Core.Path.{_≡_, refl, sym, ap, ap₂, _∙_}
+use mathlib.Core.Path.{_≡_, refl, sym, _∙_}
 use mathlib.Core.Logic.{_⊎_, inl, inr, ⊎-elim}
-use Prim.Native.Nat.{ℕ, zero, suc, _+_, _-_, _*_, _/_, _%_, _^_, _≤_, _<_, zero-le, max}
+use Prim.Native.Nat.{ℕ, zero, suc, _-_, _^_, _≤_, _<_, zero-le, max}
 use native.Mathlib.Nat.{le-of-suc-le-suc, not-suc-le-zero, le-antisymm, le-trans, max-le, le-max-left, le-max-right, eq-or-lt-of-le, le-refl, max-zero}
 use native.Mathlib.Omega.{arith}
 use native.Mathlib.Decide.{ℕ-discrete}
@@ -9,7 +9,7 @@ use lib.Arith.{le-zero}
 use Rattle.plain.proofs.Lists.{lt-or-ge}
 use Rattle.sets.specs.Member.{bit, Member}
 use Rattle.sets.specs.Greatest.{kept, greatest}
-use Rattle.sets.proofs.Bits.{bit-le, bit-zero, bit-out-same, bit-out-other, mem-lt, mem-or, not-mem}
+use Rattle.sets.proofs.Bits.{bit-le, bit-zero, bit-out-same, bit-out-other, mem-lt, mem-or}
 
 kept-le : (b x y : ℕ) → (b ≡ 1 → x ≤ y) → b ≤ 1 → kept b x ≤ y
 kept-le zero x y h l = zero-le

@@ -1,19 +1,16 @@
--- A set by a rule: its digits are what the rule says, because each number below n is put in once or not at all; and a loop that collects
--- a word from the lowest number up makes that set.
+-- A set by a rule: its digits are what the rule says, because each number below n is put in once or not at all.
 use mathlib.Core.Path.{_≡_, refl, sym, ap, ap₂, _∙_}
 use mathlib.Core.Logic.{_⊎_, inl, inr, ⊎-elim}
-use Prim.Native.Nat.{ℕ, zero, suc, _+_, _-_, _*_, _^_, _≤_, _<_, max}
+use Prim.Native.Nat.{ℕ, zero, suc, _+_, _-_, _*_, _^_, _≤_, _<_}
 use native.Mathlib.Nat.{pow-suc, le-of-suc-le-suc, not-suc-le-zero, eq-or-lt-of-le, le-refl, one-mul, zero-mul}
 use native.Mathlib.Omega.{arith}
-use lib.Bits.{bitOr}
 use lib.Count.{ones}
-use borrow.Author.Count.{below-more}
 use Rattle.plain.specs.Sums.{sumTo}
 use Rattle.plain.proofs.Lists.{lt-or-ge}
-use Rattle.sets.specs.Member.{bit, Member}
+use Rattle.sets.specs.Member.{bit}
 use Rattle.sets.specs.Size.{sizeTo}
 use Rattle.sets.specs.Rule.{setOf}
-use Rattle.sets.proofs.Bits.{bit-zero, bit-or, bit-put-same, bit-put-other, bit-pow-same, bit-pow-other, mem-or-r}
+use Rattle.sets.proofs.Bits.{bit-zero, bit-put-same, bit-put-other}
 use Rattle.sets.proofs.Sizes.{ones-size}
 
 zero-or-one : (x : ℕ) → x ≤ 1 → (x ≡ 0) ⊎ (x ≡ 1)
@@ -62,38 +59,7 @@ module _ (f : ℕ → ℕ) (flag : (v : ℕ) → f v ≤ 1) where
   pub ones-set : (n : ℕ) → ones (setOf n f) ≡ sumTo n f
   ones-set n = ones-size n (setOf n f) (set-lt n) ∙ size-below n n (le-refl n)
 
--- a word that a loop collects, lowest first: below x by the test f, which is 0 or 1, and nothing from x on
+-- a word whose digits below x are what f says, with nothing from x on
 pub record Collected (f : ℕ → ℕ) (x s : ℕ) : Type 0 where
   pub done : (y : ℕ) → y < x → bit y s ≡ f y
   pub rest : (y : ℕ) → x ≤ y → bit y s ≡ 0
-
-pub collect-none : (f : ℕ → ℕ) → Collected f 0 0
-collect-none f = record { done = λ y h. absurd (not-suc-le-zero h); rest = λ y h. bit-zero y }
-
-pub collect-in : {f : ℕ → ℕ} {x s : ℕ} → f x ≡ 1 → Collected f x s → Collected f (x + 1) (bitOr s (2 ^ x))
-collect-in {f} {x} {s} e c = record {
-  done = below-more (λ y. bit y (bitOr s (2 ^ x)) ≡ f y) x (λ y h. other y (ne y h) ∙ c .done y h) (mem-or-r x s (2 ^ x) (bit-pow-same x) ∙ sym e);
-  rest = λ y h. other y (ne2 y h) ∙ c .rest y (omega arith);
-}
-  where
-    ne : (y : ℕ) → y < x → y ≡ x → ⊥
-    ne y h q = omega arith
-
-    ne2 : (y : ℕ) → x + 1 ≤ y → y ≡ x → ⊥
-    ne2 y h q = omega arith
-
-    other : (y : ℕ) → (y ≡ x → ⊥) → bit y (bitOr s (2 ^ x)) ≡ bit y s
-    other y n = let a = bit-or y s (2 ^ x) in let b = bit-pow-other x y n in omega arith
-
-pub collect-out : {f : ℕ → ℕ} {x s : ℕ} → f x ≡ 0 → Collected f x s → Collected f (x + 1) s
-collect-out {f} {x} {s} e c = record {
-  done = below-more (λ y. bit y s ≡ f y) x (c .done) (c .rest x (le-refl x) ∙ sym e);
-  rest = λ y h. c .rest y (omega arith);
-}
-
--- the same where the word after the step is known by an equation, as where two ways of a branch have met
-pub collect-in-to : {f : ℕ → ℕ} {x s t : ℕ} → f x ≡ 1 → t ≡ bitOr s (2 ^ x) → Collected f x s → Collected f (x + 1) t
-collect-in-to e q c = rw q (collect-in e c)
-
-pub collect-out-to : {f : ℕ → ℕ} {x s t : ℕ} → f x ≡ 0 → t ≡ s → Collected f x s → Collected f (x + 1) t
-collect-out-to e q c = rw q (collect-out e c)

@@ -9,9 +9,9 @@ use native.Mathlib.Decide.{le-ind}
 use native.Mathlib.Omega.{arith}
 use Rattle.plain.specs.Pick.{upTo}
 use Rattle.plain.specs.Sums.{sumTo}
-use Rattle.plain.proofs.Sums.{sumTo-none, sumTo-more, sum-same, sum-mono, sum-under}
+use Rattle.plain.proofs.Sums.{sumTo-none, sumTo-more, sum-same, sum-under}
 use Rattle.shares.specs.Words.{threadsAt, lengthAt, numeratorAt, edge, stretchedIn}
-use Rattle.shares.proofs.Sums.{upTo-yes, upTo-no, upTo-le, upTo-later, sum-stops}
+use Rattle.shares.proofs.Sums.{upTo-yes, upTo-no, sum-stops}
 
 -- the first edge, the next one, and how they go up
 pub edge-none : (w : List ℕ) → edge w 0 ≡ 0
@@ -44,14 +44,6 @@ module _ (w : List ℕ) (t : ℕ) where
   pub stretched-past : (j s : ℕ) → j ≤ s → t < edge w (suc j) → stretchedIn w s t ≡ stretchedIn w j t
   unfolding stretchedIn
   stretched-past j s h l = sum-stops ended j s h (λ k g. upTo-no (edge w (suc k)) t _ (omega (arith, edge-mono w (suc j) (suc k) (omega arith))))
-
-  pub stretched-le : (s : ℕ) → stretchedIn w s t ≤ sumTo s (numeratorAt w)
-  unfolding stretchedIn
-  stretched-le s = sum-mono s ended (numeratorAt w) (λ j l. upTo-le _ _ _)
-
-pub stretched-mono : (w : List ℕ) (s t u : ℕ) → t ≤ u → stretchedIn w s t ≤ stretchedIn w s u
-unfolding stretchedIn
-stretched-mono w s t u h = sum-mono s (ended w t) (ended w u) (λ j l. upTo-later _ _ _ _ h)
 
 -- the words hold a cut of s segments with threads m, lengths e and numerators f
 pub record Holds (w : List ℕ) (s : ℕ) (m e f : ℕ → ℕ) : Type 0 where

@@ -1,15 +1,14 @@
 -- A written plan can be printed: its counts are at most 64, no word is missing, and its densities are small enough to sum. And a text that is
 -- known under another name is written all the same.
-use mathlib.Core.Path.{_≡_, refl, sym, ap, _∙_}
+use mathlib.Core.Path.{_≡_, refl, sym, ap}
 use mathlib.Core.List.{List}
-use Prim.Native.Nat.{ℕ, _+_, _*_, _^_, _≤_, _<_}
+use Prim.Native.Nat.{ℕ, _+_, _*_, _≤_, _<_}
 use native.Mathlib.Nat.{le-trans, mul-le-mul-right}
 use native.Mathlib.Omega.{arith}
 use borrow.Author.Tests.{lt-ltb, le-ltb}
 use lib.ListN.{length}
 use Rattle.plain.specs.At.{at}
-use Rattle.plain.specs.Sums.{sumTo}
-use Rattle.plain.proofs.Sums.{sum-same, sumTo-le}
+use Rattle.plain.proofs.Sums.{sumTo-le}
 use Rattle.tables.specs.declared.TaskTable.{TaskTable}
 use Rattle.tables.specs.Limits.{densityMax}
 use Rattle.refusals.specs.declared.Answer.{Answer}

@@ -7,7 +7,7 @@ use Rattle.plain.specs.Pick.{pick}
 use Rattle.tables.specs.declared.TaskTable.{TaskTable}
 use Rattle.plans.specs.Diagram.{work, path}
 use Rattle.plans.specs.Words.{wordsMax, written}
-use Rattle.plans.specs.Calls.{onTable, onTask}
+use Rattle.plans.specs.Calls.{onTask}
 use Rattle.sheets.specs.Lines.{refusedLine}
 use Rattle.sheets.specs.Sheet.{sheetText, sheetMax}
 use Rattle.sheets.specs.Wrote.{wrote}

@@ -11,8 +11,7 @@ ghost use Rattle.sheets.specs.Decimal.{decimal};
 ghost use Rattle.sheets.specs.Wrote.{Room, Wrote, wrote};
 ghost use Rattle.sheets.specs.Lines.{field, line, tripleLine, taskLine, totalLine, refusedLine};
 ghost use Rattle.tables.specs.Range.{InRange};
-ghost use Rattle.plans.specs.Calls.{onTable};
-ghost use Rattle.plans.specs.Drawn.{answerOf};
+ghost use Rattle.plans.specs.Calls.{onTable, answerOf};
 ghost use Rattle.sheets.specs.Printed.{tableSheet, sheetOf, printed};
 ghost use Rattle.sheets.specs.Sheet.{lineAt, triplesTo, segLines, nodesFrom, nodeLines, density, figures, sheetText, Printable, sheetMax};
 

@@ -1,5 +1,5 @@
 -- The limits of a task record, each named once; the others are derived from them.
-use Prim.Native.Nat.{ℕ, _+_, _*_}
+use Prim.Native.Nat.{ℕ, _*_}
 
 -- "task id (1..65,535)"
 abbrev pub idMax : ℕ

@@ -1,7 +1,6 @@
 -- What a table read from a record keeps to.
 use mathlib.Core.Path.{_≡_}
 use Prim.Native.Nat.{ℕ, _^_, _≤_, _<_}
-use lib.ListN.{length}
 use Rattle.plain.specs.At.{at}
 use Rattle.tables.specs.declared.TaskTable.{TaskTable}
 use Rattle.tables.specs.Limits.{idMax, periodMax, countMax, executionMax}

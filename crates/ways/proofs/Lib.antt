@@ -4,7 +4,7 @@ pub mod Ways
 pub mod Totals
 pub mod Orders
 mod Words
-mod Seeking
 mod Settling
+mod Waiting
 mod Pass
 mod Worked

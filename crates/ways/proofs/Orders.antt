@@ -18,11 +18,8 @@ use Rattle.sets.proofs.Sizes.{size-none, size-put, size-all}
 use Rattle.ways.specs.Reaches.{Reaches, edge, more, Tidy}
 use Rattle.ways.specs.Closure.{loops}
 use Rattle.ways.specs.Order.{Ordered, Sorted}
+use Rattle.ways.specs.Waiting.{Listed}
 use Rattle.ways.proofs.Reaches.{from-lt}
-
--- k stands among the first c entries
-abbrev pub Listed : List ℕ → ℕ → ℕ → Type 0
-Listed l c k = (j : ℕ) × (j < c) × (at l j ≡ k)
 
 module _ (P : List ℕ) (n : ℕ) (l : List ℕ) (o : Ordered P n n l) where
   -- the set of the first c entries

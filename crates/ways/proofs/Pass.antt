@@ -15,8 +15,9 @@ use Rattle.sets.proofs.Greatest.{greatest-cut}
 use Rattle.ways.specs.Reaches.{Tidy}
 use Rattle.ways.specs.Ways.{begins, ends}
 use Rattle.ways.specs.Order.{Ordered}
+use Rattle.ways.specs.Waiting.{Listed}
 use Rattle.ways.proofs.Ways.{begin-same, at-begins, ends-begins}
-use Rattle.ways.proofs.Orders.{Listed, whole, order-free}
+use Rattle.ways.proofs.Orders.{whole, order-free}
 
 -- after i entries of the list l: their nodes have what F says, the others have 0
 pub record Passed (F : ℕ → ℕ) (l : List ℕ) (i : ℕ) (e : List ℕ) : Type 0 where

@@ -6,7 +6,7 @@ use mathlib.Core.List.{List}
 use Prim.Native.Nat.{ℕ, zero, suc, _+_, _*_, _^_, _≤_, _<_}
 use native.Mathlib.Nat.{not-suc-le-zero, suc-mul}
 use native.Mathlib.Omega.{arith}
-use Rattle.plain.specs.At.{at, tab}
+use Rattle.plain.specs.At.{at}
 use Rattle.plain.proofs.Lists.{lt-or-ge, at-tab, at-tab-past}
 use Rattle.sets.specs.Member.{Member}
 use Rattle.sets.specs.Greatest.{greatest}
@@ -45,13 +45,6 @@ module _ (P W : List ℕ) (n : ℕ) where
   pub begins-past : (v : ℕ) → n ≤ v → at (begins P W n) v ≡ 0
   unfolding begins
   begins-past v h = at-tab-past n (beginBy P n (at (ends P W n))) v h
-
-  -- begins from any array that holds the ends
-  pub begins-by : (E : ℕ → ℕ) → ((v : ℕ) → E v ≡ at (ends P W n) v) → (v : ℕ) → at (tab n (beginBy P n E)) v ≡ at (begins P W n) v
-  begins-by E e v = ⊎-elim
-      (λ (l : v < n). at-tab n (beginBy P n E) v l ∙ begin-same P n E (at (ends P W n)) v (λ p h m. e p) ∙ sym (at-begins v l))
-      (λ (g : n ≤ v). at-tab-past n (beginBy P n E) v g ∙ sym (begins-past v g))
-      (lt-or-ge v n)
 
   -- ---- a begin is 0 or some parent's end, and at least each parent's end
   pub begin-is : (v : ℕ) → v < n → (at (begins P W n) v ≡ 0) ⊎ ((p : ℕ) × (p < n) × Member p (at P v) × (at (begins P W n) v ≡ at (ends P W n) p))

@@ -3,3 +3,4 @@ pub mod Closure
 pub mod Ways
 pub mod Totals
 pub mod Order
+pub mod Waiting

@@ -8,17 +8,6 @@ use Rattle.sets.specs.Member.{Member}
 use Rattle.ways.specs.Reaches.{Reaches, Loops}
 use Rattle.ways.specs.Closure.{loops}
 
--- v is unsettled, and none of its parents is
-pub record Ready (P : List ℕ) (unsettled v : ℕ) : Type 0 where
-  pub waits : Member v unsettled
-  pub clear : (p : ℕ) → Member p (at P v) → Member p unsettled → ⊥
-
--- r is the least number below m that has the property, m where none has
-pub record Least (Q : ℕ → Type 0) (m r : ℕ) : Type 0 where
-  pub within : r ≤ m
-  pub has : r < m → Q r
-  pub before : (v : ℕ) → v < r → Q v → ⊥
-
 -- the first c entries of l: nodes below n, each once, each after all its parents; the order is whole where c is n
 pub record Ordered (P : List ℕ) (n c : ℕ) (l : List ℕ) : Type 0 where
   pub node : (i : ℕ) → i < c → at l i < n

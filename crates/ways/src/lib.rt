@@ -8,22 +8,8 @@ ghost use Rattle.sets.specs.Rule.{setOf};
 ghost use Rattle.ways.specs.Reaches.{Tidy};
 ghost use Rattle.ways.specs.Ways.{weightMax, begins, ends};
 ghost use Rattle.ways.specs.Totals.{workOf};
-ghost use Rattle.ways.specs.Order.{Ready, Least, Ordered, Sorted};
-
-// The lowest unsettled node none of whose parents is unsettled, 64 where there is none. Unsettled nodes are walked by trailing zeros.
-fn ready(parents: &[u64; 64], unsettled: u64) -> usize
-    ensures { λ r. ⌜ Least (Ready (now (parents .entry)) unsettled) 64 r ⌝ }
-{
-    let mut left = unsettled;
-    while left != 0 {
-        let v = u64::trailing_zeros(left) as usize;
-        left = left & (left - 1);
-        if parents[v] & unsettled == 0 {
-            return v;
-        }
-    }
-    64
-}
+ghost use Rattle.ways.specs.Order.{Ordered, Sorted};
+ghost use Rattle.ways.specs.Waiting.{Waiting};
 
 // The set of all nodes below n.
 fn all_nodes(n: usize) -> u64
@@ -33,23 +19,64 @@ fn all_nodes(n: usize) -> u64
     if n < 64 { (1u64 << n) - 1 } else { u64::MAX }
 }
 
-// Settles the nodes one by one, each after its parents, and gives their number. Where nodes are left and none is ready, they hold a loop.
+// The nodes settled so far: how many, and their set.
+pub struct Settled {
+    pub count: usize,
+    pub set: u64,
+}
+
+// Looks at each node of a set: it is settled where all its parents are, and else waits for the lowest that is not.
+fn look(
+    list: &mut [usize; 64],
+    waiting: &mut [u64; 64],
+    parents: &[u64; 64],
+    nodes: u64,
+    from: Settled,
+) -> Settled
+    requires { ⌜ ((n : ℕ) × (next : ℕ) × Waiting (now parents) n next (now list) (from .count) (from .set) (now waiting) nodes) ⌝ }
+    ensures { λ r. ⌜ ((n next : ℕ) → Waiting (now (parents .entry)) n next (now (list .entry)) (from .count) (from .set) (now (waiting .entry)) nodes → Waiting (now (parents .entry)) n next (now (list .exit)) (r .count) (r .set) (now (waiting .exit)) 0) ⌝ }
+{
+    let mut count = from.count;
+    let mut set = from.set;
+    let mut left = nodes;
+    while left != 0 {
+        let v = u64::trailing_zeros(left) as usize;
+        left = left & (left - 1);
+        let missing = parents[v] & !set;
+        if missing == 0 {
+            list[count] = v;
+            count += 1;
+            set = sets::with_member(set, v);
+        } else {
+            let p = u64::trailing_zeros(missing) as usize;
+            waiting[p] = sets::with_member(waiting[p], v);
+        }
+    }
+    Settled { count, set }
+}
+
+// Settles the nodes one by one, each after its parents, and gives their number. A node waits for one parent, and is looked at again
+// once that is settled. Where nodes are left in the end, they hold a loop.
 pub fn order_of(list: &mut [usize; 64], parents: &[u64; 64], n: usize) -> usize
     requires { ⌜ (n ≤ 64) × Tidy (now parents) n × (length (now list) ≡ 64) ⌝ }
     ensures { λ r. ⌜ Sorted (now (parents .entry)) n r (now (list .exit)) ⌝ }
 {
-    let mut count: usize = 0;
-    let mut unsettled = all_nodes(n);
-    while unsettled != 0 {
-        let v = ready(parents, unsettled);
-        if v == 64 {
-            return count;
-        }
-        list[count] = v;
-        count += 1;
-        unsettled = unsettled - (1u64 << v);
+    let mut waiting = [0u64; 64];
+    let mut settled = look(
+        list,
+        &mut waiting,
+        parents,
+        all_nodes(n),
+        Settled { count: 0, set: 0 },
+    );
+    let mut next: usize = 0;
+    while next < settled.count {
+        let p = list[next];
+        let nodes = waiting[p];
+        settled = look(list, &mut waiting, parents, nodes, settled);
+        next += 1;
     }
-    count
+    settled.count
 }
 
 // Begin and end of each node into arrays of zeros, in one pass along the order.

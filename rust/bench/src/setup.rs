@@ -11,7 +11,20 @@ pub struct Aligned<T>(pub T);
 /// A shape's name and the parents of its nodes.
 pub type Shape = (&'static str, fn(u64) -> Vec<Vec<u64>>);
 
-pub const SHAPES: [Shape; 3] = [("chain", chain), ("fork", fork), ("dense", dense)];
+pub const SHAPES: [Shape; 4] = [
+    ("chain", chain),
+    ("backward chain", backward),
+    ("fork", fork),
+    ("dense", dense),
+];
+
+/// A chain whose last step is node 0: a search for the next step that goes up
+/// the node numbers has the longest way.
+fn backward(count: u64) -> Vec<Vec<u64>> {
+    (0..count)
+        .map(|node| (node + 1..count.min(node + 2)).collect())
+        .collect()
+}
 
 /// A task of that shape. Executions differ, so that the cuts do, and the
 /// period is roomy enough for every shape.

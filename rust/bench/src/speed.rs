@@ -13,7 +13,7 @@ pub fn print() {
     println!("words and boards start on a cache line");
     println!("board: copied afresh before each admit and withdraw; the {copy:.1} for");
     println!("the copy are already taken off");
-    println!("{:34}{:>9}{:>11}{:>7}", "", "library", "reference", "ratio");
+    println!("{:42}{:>9}{:>11}{:>7}", "", "library", "reference", "ratio");
     plans();
     admissions(copy);
     withdrawal(copy);
@@ -22,7 +22,7 @@ pub fn print() {
 
 fn line(name: &str, (library, reference): (f64, f64)) {
     let ratio = library / reference;
-    println!("{name:34}{library:9.1}{reference:11.1}{ratio:7.2}");
+    println!("{name:42}{library:9.1}{reference:11.1}{ratio:7.2}");
 }
 
 fn plans() {

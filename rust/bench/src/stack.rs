@@ -21,7 +21,7 @@ pub fn print() {
     println!();
     println!("stack in bytes, with the small frame that makes the call; for plan and");
     println!("admit the deepest of 64 nodes in each shape and the longest record");
-    println!("{:34}{:>9}{:>11}", "", "library", "reference");
+    println!("{:42}{:>9}{:>11}", "", "library", "reference");
     let with_id = |(shape, id)| record(shape, 64, id);
     let mut records: Vec<Vec<u8>> = SHAPES.into_iter().zip(90..).map(with_id).collect();
     records.push(Task::longest().record());
@@ -31,7 +31,7 @@ pub fn print() {
 }
 
 fn line(name: &str, library: usize, reference: usize) {
-    println!("{name:34}{library:9}{reference:11}");
+    println!("{name:42}{library:9}{reference:11}");
 }
 
 fn plan_depths(records: &[Vec<u8>]) {

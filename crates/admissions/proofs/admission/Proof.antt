@@ -7,8 +7,7 @@ use Rattle.records.specs.declared.Outcome.the-variants.{Accepted}
 use Rattle.records.specs.declared.Reading.{Reading}
 use Rattle.records.specs.Reading.{readingOf}
 use Rattle.records.proofs.Answers.{accepted-table}
-use Rattle.plans.specs.Calls.{onTask}
-use Rattle.plans.specs.Drawn.{answerOf}
+use Rattle.plans.specs.Calls.{onTask, answerOf}
 use Rattle.plans.proofs.Tests.{task-refused, task-read}
 use Rattle.boards.proofs.Tests.{passed, failed}
 use Rattle.admissions.specs.Admission.{notAdmitted, entered, admission}
@@ -19,13 +18,13 @@ use Rattle.admissions.proofs.admission.Tie as tie
 refused-requires : tie.Need-refused-requires
 refused-requires c κs = search needs
 
-not-admitted-requires : tie.Need-not-admitted-requires
-not-admitted-requires c κs = search needs
+unchanged-requires : tie.Need-unchanged-requires
+unchanged-requires c κs = search needs
 
 returns : tie.Need-returns
 returns c =
     let a = c .before .before .before .before .before .args in
-    leaves (a .board .rows) (few (now (a .bytes)) (now (a .words)) (a .board .rows) (c .before .before .if1 .taken)) (c .not-admitted .ensures) (c .before .refused .ensures)
+    leaves (a .board .rows) (few (now (a .bytes)) (now (a .words)) (a .board .rows) (c .before .before .if1 .taken)) (c .unchanged .ensures) (c .before .refused .ensures)
 
 is-sound-requires : tie.Need-is-sound-requires
 is-sound-requires c κs = search needs
@@ -33,15 +32,15 @@ is-sound-requires c κs = search needs
 refused-requires-2 : tie.Need-refused-requires-2
 refused-requires-2 c κs = search needs
 
-not-admitted-requires-2 : tie.Need-not-admitted-requires-2
-not-admitted-requires-2 c κs = search needs
+unchanged-requires-2 : tie.Need-unchanged-requires-2
+unchanged-requires-2 c κs = search needs
 
 returns-2 : tie.Need-returns-2
 returns-2 c =
     let i = c .before .before .before in
     let a = i .before .before .before .before .args in
     leaves (a .board .rows) (unsound (now (a .bytes)) (now (a .words)) (a .board .rows) (i .before .if1 .left) (failed (i .is-sound .ensures) (c .before .before .if2 .taken)))
-    (c .not-admitted2 .ensures) (c .before .refused2 .ensures)
+    (c .unchanged2 .ensures) (c .before .refused2 .ensures)
 
 read-record-requires : tie.Need-read-record-requires
 read-record-requires c κs = search needs
@@ -62,8 +61,8 @@ enum-told-2 c = search needs
 answer-of-requires : tie.Need-answer-of-requires
 answer-of-requires c κs = search needs
 
-not-admitted-requires-3 : tie.Need-not-admitted-requires-3
-not-admitted-requires-3 c κs = search needs
+unchanged-requires-3 : tie.Need-unchanged-requires-3
+unchanged-requires-3 c κs = search needs
 
 returns-3 : tie.Need-returns-3
 returns-3 c =
@@ -73,7 +72,7 @@ returns-3 c =
     let told = o .before .enum-told2 .given .1 in
     let read = ap (λ (r : Reading). r .outcome) (sym (d .read-record .ensures)) ∙ told in
     let e = going d ∙ task-refused (notAdmitted (a .board .rows) (now (a .words))) (entered (a .board .rows) (now (a .words))) (now (a .bytes)) read in
-    leaves (a .board .rows) e (c .not-admitted3 .ensures) (o .answer-of .ensures ∙ ap answerOf told)
+    leaves (a .board .rows) e (c .unchanged3 .ensures) (o .answer-of .ensures ∙ ap answerOf told)
 
 -- a table that was read
 read : (c : tie.After-enum-told) → readingOf (now (c .before .before .before .before .before .before .before .before .args .bytes)) .outcome ≡ Accepted
@@ -102,17 +101,17 @@ admission-spec =
     tie.close
     (tie.spec
     refused-requires
-    not-admitted-requires
+    unchanged-requires
     returns
     is-sound-requires
     refused-requires-2
-    not-admitted-requires-2
+    unchanged-requires-2
     returns-2
     read-record-requires
     enum-told
     enum-told-2
     answer-of-requires
-    not-admitted-requires-3
+    unchanged-requires-3
     returns-3
     admit-table-requires
     same-length

@@ -1,7 +1,7 @@
 -- `admissions::admit_table` meets its contract: the place found with the id alone is the row's own, planning answers it where it is a refusal and
 -- the table has a plan, and the figures read off the words just written are the row.
-use mathlib.Core.Path.{_≡_, refl, sym, ap, _∙_}
-use Prim.Native.Nat.{_+_, _*_, _-_, _≤_}
+use mathlib.Core.Path.{_≡_, sym, ap, _∙_}
+use Prim.Native.Nat.{_*_, _-_, _≤_}
 use native.Mathlib.Omega.{arith}
 use borrow.Author.Needs.{needs}
 use lib.ListN.{length, take, drop}
@@ -25,8 +25,8 @@ placed-requires c κs = search needs
 plan-table-requires : tie.Need-plan-table-requires
 plan-table-requires c κs = search needs
 
-not-admitted-requires : tie.Need-not-admitted-requires
-not-admitted-requires c κs = search needs
+unchanged-requires : tie.Need-unchanged-requires
+unchanged-requires c κs = search needs
 
 same-length : tie.Need-same-length
 same-length c = search needs
@@ -38,7 +38,7 @@ returns c =
     let a = p .before .before .args in
     let made = m .plan-table .ensures .0 in
     let e = table-out (a .board .rows) (now (a .words)) (a .table) (p .placed .result) (p .placed .ensures .0) (made .0) (made .1) (c .before .if1 .taken) in
-    (c .not-admitted .ensures ∙ sym (ap (λ (x : Admission). x .change) e), rw (c .not-admitted .ensures) (omega arith), sym (ap (λ (x : Admission). x .words) e))
+    (c .unchanged .ensures ∙ sym (ap (λ (x : Admission). x .change) e), rw (c .unchanged .ensures) (omega arith), sym (ap (λ (x : Admission). x .words) e))
 
 -- past the test the table has a plan
 accepts : (c : tie.Else1) → Accepted (c .before .before .before .before .before .before .before .before .before .before .args .table)
@@ -116,7 +116,7 @@ admit-table-spec =
     (tie.spec
     placed-requires
     plan-table-requires
-    not-admitted-requires
+    unchanged-requires
     same-length
     returns
     mul-from

@@ -10,20 +10,27 @@ use Rattle.boards.proofs.placed.Tie as tie
 place-of-requires : tie.Need-place-of-requires
 place-of-requires c κs = search needs
 
+refused-requires : tie.Need-refused-requires
+refused-requires c κs = search needs
+
 unchanged-requires : tie.Need-unchanged-requires
 unchanged-requires c κs = search needs
 
 returns : tie.Need-returns
 unfolding placed
 returns c =
-    let one = c .before in
-    (pick-yes _ (lt-ltb _ _ (rw (one .before .place-of .ensures) at (one .if1 .taken))) (c .unchanged .ensures), rw (c .unchanged .ensures) (lit< tt))
+    let one = c .before .before in
+    let left = rw (c .before .refused .ensures) at (c .unchanged .ensures) in
+    (pick-yes _ (lt-ltb _ _ (rw (one .before .place-of .ensures) at (one .if1 .taken))) left, rw left (lit< tt))
 
 place-of-requires-2 : tie.Need-place-of-requires-2
 place-of-requires-2 c κs = search needs
 
 accepted-requires : tie.Need-accepted-requires
 accepted-requires c κs = search needs
+
+refused-requires-2 : tie.Need-refused-requires-2
+refused-requires-2 c κs = search needs
 
 unchanged-requires-2 : tie.Need-unchanged-requires-2
 unchanged-requires-2 c κs = search needs
@@ -41,11 +48,12 @@ returns-2 c =
 returns-3 : tie.Need-returns-3
 unfolding placed
 returns-3 c =
-    let two = c .before in
-    let one = two .before .before in (
+    let two = c .before .before in
+    let one = two .before .before in
+    let left = rw (c .before .refused2 .ensures) at (c .unchanged2 .ensures) in (
       pick-no _ (le-ltb _ _ (rw (one .before .place-of .ensures) at (one .if1 .left)))
-          (pick-no _ (le-ltb _ _ (rw (two .before .place-of2 .ensures) at (two .if2 .left))) (c .unchanged2 .ensures)),
-      rw (c .unchanged2 .ensures) (lit< tt),
+          (pick-no _ (le-ltb _ _ (rw (two .before .place-of2 .ensures) at (two .if2 .left))) left),
+      rw left (lit< tt),
     )
 
 pub placed-spec : {M : Type 1} → statement M
@@ -53,10 +61,12 @@ placed-spec =
     tie.close
     (tie.spec
     place-of-requires
+    refused-requires
     unchanged-requires
     returns
     place-of-requires-2
     accepted-requires
+    refused-requires-2
     unchanged-requires-2
     returns-2
     returns-3)

@@ -10,14 +10,21 @@ use Rattle.boards.proofs.withdrawn.Tie as tie
 is-sound-requires : tie.Need-is-sound-requires
 is-sound-requires c κs = search needs
 
+refused-requires : tie.Need-refused-requires
+refused-requires c κs = search needs
+
 unchanged-requires : tie.Need-unchanged-requires
 unchanged-requires c κs = search needs
 
 returns : tie.Need-returns
 unfolding withdrawn
 returns c =
-    let one = c .before in
-    (pick-no _ (failed (one .before .is-sound .ensures) (one .if1 .taken)) (c .unchanged .ensures), rw (c .unchanged .ensures) (lit< tt))
+    let one = c .before .before in
+    let left = rw (c .before .refused .ensures) at (c .unchanged .ensures) in
+    (pick-no _ (failed (one .before .is-sound .ensures) (one .if1 .taken)) left, rw left (lit< tt))
+
+refused-requires-2 : tie.Need-refused-requires-2
+refused-requires-2 c κs = search needs
 
 unchanged-requires-2 : tie.Need-unchanged-requires-2
 unchanged-requires-2 c κs = search needs
@@ -25,9 +32,10 @@ unchanged-requires-2 c κs = search needs
 returns-2 : tie.Need-returns-2
 unfolding withdrawn
 returns-2 c =
-    let two = c .before in
+    let two = c .before .before in
     let one = two .before in
-    (pick-yes _ (passed (one .before .is-sound .ensures) (one .if1 .left)) (pick-yes _ (eq-eqb _ _ (two .if2 .taken)) (c .unchanged2 .ensures)), rw (c .unchanged2 .ensures) (lit< tt))
+    let left = rw (c .before .refused2 .ensures) at (c .unchanged2 .ensures) in
+    (pick-yes _ (passed (one .before .is-sound .ensures) (one .if1 .left)) (pick-yes _ (eq-eqb _ _ (two .if2 .taken)) left), rw left (lit< tt))
 
 place-of-requires : tie.Need-place-of-requires
 place-of-requires c κs = search needs
@@ -37,6 +45,9 @@ free-requires c κs = search needs
 
 accepted-requires : tie.Need-accepted-requires
 accepted-requires c κs = search needs
+
+refused-requires-3 : tie.Need-refused-requires-3
+refused-requires-3 c κs = search needs
 
 unchanged-requires-3 : tie.Need-unchanged-requires-3
 unchanged-requires-3 c κs = search needs
@@ -57,13 +68,14 @@ returns-3 c =
 returns-4 : tie.Need-returns-4
 unfolding withdrawn
 returns-4 c =
-    let three = c .before in
+    let three = c .before .before in
     let two = three .before .before in
-    let one = two .before in (
+    let one = two .before in
+    let left = rw (c .before .refused3 .ensures) at (c .unchanged3 .ensures) in (
       pick-yes _ (passed (one .before .is-sound .ensures) (one .if1 .left))
           (pick-no _ (ne-eqb _ _ (two .if2 .left))
-          (pick-no _ (le-ltb _ _ (rw (three .before .place-of .ensures) at (three .if3 .left))) (c .unchanged3 .ensures))),
-      rw (c .unchanged3 .ensures) (lit< tt),
+          (pick-no _ (le-ltb _ _ (rw (three .before .place-of .ensures) at (three .if3 .left))) left)),
+      rw left (lit< tt),
     )
 
 pub withdrawn-spec : {M : Type 1} → statement M
@@ -71,13 +83,16 @@ withdrawn-spec =
     tie.close
     (tie.spec
     is-sound-requires
+    refused-requires
     unchanged-requires
     returns
+    refused-requires-2
     unchanged-requires-2
     returns-2
     place-of-requires
     free-requires
     accepted-requires
+    refused-requires-3
     unchanged-requires-3
     returns-3
     returns-4)

@@ -16,7 +16,7 @@ wide-requires : tie.Need-wide-requires
 wide-requires c κs = search needs
 
 returns-2 : tie.Need-returns-2
-returns-2 c = sym (last _ _ (omega arith) (c .before .wide .ensures) (c .if2 .taken))
+returns-2 c = sym (last _ _ _ (omega arith) (c .before .wide .ensures) (c .if2 .taken))
 
 returns-3 : tie.Need-returns-3
 returns-3 c = sym (not-last _ _ (omega arith) (c .before .wide .ensures) (c .if2 .left))

@@ -1,7 +1,7 @@
 -- `plans::answer_of` meets its contract, by the case of the outcome.
 use mathlib.Core.Path.{sym, ap, _∙_}
 use borrow.Author.Needs.{needs}
-use Rattle.plans.specs.Drawn.{answerOf}
+use Rattle.plans.specs.Calls.{answerOf}
 use Rattle.plans.proofs.answer_of.Statement.{statement}
 use Rattle.plans.proofs.answer_of.Tie as tie
 

@@ -1,18 +1,13 @@
 -- `plans::plan` meets its contract: 16 first, then the reading's refusal, then the table that was read, which is in range.
 use mathlib.Core.Path.{_≡_, sym, ap, _∙_}
-use mathlib.Core.List.{List}
-use Prim.Native.Nat.{ℕ}
 use borrow.Author.Needs.{needs}
 use denote.Ref.{now}
-use Rattle.refusals.specs.declared.Refusal.{Refusal}
 use Rattle.tables.specs.Range.{InRange}
-use Rattle.records.specs.declared.Outcome.{Outcome}
 use Rattle.records.specs.declared.Outcome.the-variants.{Accepted}
 use Rattle.records.specs.declared.Reading.{Reading}
 use Rattle.records.specs.Reading.{readingOf}
 use Rattle.records.proofs.Answers.{accepted-table}
-use Rattle.plans.specs.Calls.{Planned, unplanned, planned, planCall, onTable}
-use Rattle.plans.specs.Drawn.{answerOf}
+use Rattle.plans.specs.Calls.{answerOf, Planned, unplanned, planned, onTable}
 use Rattle.plans.proofs.Tests.{few, enough, task-refused, task-read}
 use Rattle.plans.proofs.plan.Statement.{statement}
 use Rattle.plans.proofs.plan.Tie as tie

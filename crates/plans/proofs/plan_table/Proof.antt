@@ -5,8 +5,7 @@ use borrow.Author.Needs.{needs}
 use denote.Ref.{now}
 use Rattle.refusals.specs.declared.Answer.{Answer}
 use Rattle.refusals.specs.Answer.{accepted}
-use Rattle.plans.specs.Calls.{Planned, unplanned, plannedUnless, onTable}
-use Rattle.plans.specs.Drawn.{answerOf}
+use Rattle.plans.specs.Calls.{answerOf, Planned, unplanned, plannedUnless, onTable}
 use Rattle.plans.proofs.Tests.{table-refused, table-accepted, refused-some, held-back, not-held}
 use Rattle.plans.proofs.plan_table.Statement.{statement}
 use Rattle.plans.proofs.plan_table.Tie as tie

@@ -1,6 +1,6 @@
 -- `plans::write_nodes` meets its contract: by the words each node's start and finish, in stretched time, are its offset and its end, and the part
 -- behind the last segment is filled with them.
-use mathlib.Core.Path.{_≡_, ap}
+use mathlib.Core.Path.{ap}
 use Prim.Native.Nat.{ℕ, _+_, _*_, _≤_}
 use native.Mathlib.Omega.{arith}
 use borrow.Author.Needs.{needs}

@@ -1,11 +1,9 @@
 -- `plans::write_segments` meets its contract: the cut leaves threads and lengths, the deal read off them is the table's own, its numerators go
 -- beside them, and the head is written last.
-use mathlib.Core.Path.{_≡_, refl, sym, ap, _∙_}
-use mathlib.Core.List.{List}
-use Prim.Native.Nat.{ℕ, _+_, _*_, _≤_, _<_}
+use mathlib.Core.Path.{_≡_, refl, ap, _∙_}
 use native.Mathlib.Omega.{arith}
 use borrow.Author.Needs.{needs}
-use lib.ListN.{length, length-set}
+use lib.ListN.{length-set}
 use denote.Ref.{now}
 use Rattle.segments.specs.Words.{CutWords}
 use Rattle.segments.proofs.Segments.{segments-le}
@@ -15,7 +13,6 @@ use Rattle.shares.specs.Written.{Numbered}
 use Rattle.shares.proofs.Bounds.{fill-in}
 use Rattle.plans.specs.Diagram.{start, finish, work, path, segmentCount}
 use Rattle.plans.specs.Shares.{dealOf}
-use Rattle.plans.specs.Words.{wordsMax}
 use Rattle.plans.proofs.Lined.{starting-so, finishing-so, cut-in, count-so, words-so, deal-so, deal-in}
 use Rattle.plans.proofs.Front.{fronted}
 use Rattle.plans.proofs.write_segments.Statement.{statement}

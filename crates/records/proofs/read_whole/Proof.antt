@@ -1,116 +1,74 @@
--- `records::read_whole` meets its contract: byte by byte its tests are those of `number`, and what they do not let pass is read the general way.
-use Prim.Native.Nat.{_<_}
-use mathlib.Core.Path.{sym}
+-- `records::read_whole` meets its contract: what the number reader found in the part from `at` on is told as `stepOf` says.
+use Prim.Native.Nat.{_+_}
+use mathlib.Core.Path.{_≡_, sym, _∙_}
 use native.Mathlib.Omega.{arith}
+use denote.Ref.{now}
 use borrow.Author.Needs.{needs}
-use borrow.Author.Tests.{ltb-true}
-use Rattle.records.proofs.Cases.{one-byte, two-bytes, three-bytes}
+use Rattle.records.specs.declared.Step.the-variants.{Read}
+use Rattle.records.specs.Ranged.{whole}
+use Rattle.records.proofs.Cases.{whole-is, whole-bad}
+use Rattle.records.proofs.Inside.{read-inside, whole-inside}
 use Rattle.records.proofs.read_whole.Statement.{statement}
 use Rattle.records.proofs.read_whole.Tie as tie
 
-sub-if1 : tie.Need-sub-if1
-sub-if1 c = search needs
+sub-read-number : tie.Need-sub-read-number
+sub-read-number c = search needs
 
-shared-slice-read-wide : tie.Need-shared-slice-read-wide
-shared-slice-read-wide c = search needs
+part-read-number-start : tie.Need-part-read-number-start
+part-read-number-start c = search needs
 
-wide-requires : tie.Need-wide-requires
-wide-requires c κs = search needs
+part-read-number-end : tie.Need-part-read-number-end
+part-read-number-end c = search needs
 
-add-t12 : tie.Need-add-t12
-add-t12 c = search needs
+read-number-requires : tie.Need-read-number-requires
+read-number-requires c κs = search needs
+
+enum-told : tie.Need-enum-told
+enum-told c = search needs
+
+refuse-requires : tie.Need-refuse-requires
+refuse-requires c κs = search needs
 
 returns : tie.Need-returns
-returns c = sym (one-byte _ _ _ (c .before .wide .ensures) (omega arith) (c .if2 .taken))
+returns c =
+    c .refuse .ensures ∙ sym (whole-is _ _ _ (c .before .before .before .read-number .ensures) _ (c .before .enum-told .given .1))
 
-add-wide : tie.Need-add-wide
-add-wide c = search needs
+enum-known-found : tie.Need-enum-known-found
+enum-known-found c = search needs
 
-shared-slice-read-wide-2 : tie.Need-shared-slice-read-wide-2
-shared-slice-read-wide-2 c = search needs
-
-wide-requires-2 : tie.Need-wide-requires-2
-wide-requires-2 c κs = search needs
-
--- the last byte of two, and of three
-second : (c : tie.Then4) → c .before .before .wide2 .result < 128
-second c = ltb-true _ _ (c .if4 .taken)
-
-mul-t18 : tie.Need-mul-t18
-mul-t18 c = omega (arith, second c)
-
-add-t19 : tie.Need-add-t19
-add-t19 c = omega (arith, second c)
-
-add-t20 : tie.Need-add-t20
-add-t20 c = search needs
+refuse-requires-2 : tie.Need-refuse-requires-2
+refuse-requires-2 c κs = search needs
 
 returns-2 : tie.Need-returns-2
-returns-2 c = let w = c .before .before in let i = w .before .before in
-    sym (two-bytes _ _ _ (i .before .wide .ensures) _ (w .wide2 .ensures) (omega arith) (i .if2 .left) (c .before .if3 .taken) (second c))
+returns-2 c = let m = c .before in
+    c .refuse2 .ensures ∙ sym (whole-bad _ _ _ (m .before .before .read-number .ensures) (m .before .match .keys2) (m .match2 .keys2))
 
-add-wide-2 : tie.Need-add-wide-2
-add-wide-2 c = search needs
+-- a value, with the place after it
+value : (c : tie.After-found) → (let a = c .before .before .before .before .before .before .args in
+    whole (now (a .bytes)) (a .at) ≡ Read (c .found .given .0 .0) (a .at + c .found .given .0 .1 .0))
+value c = whole-is _ _ _ (c .before .before .before .read-number .ensures) _ (c .found .given .1)
 
-shared-slice-read-wide-3 : tie.Need-shared-slice-read-wide-3
-shared-slice-read-wide-3 c = search needs
-
-wide-requires-3 : tie.Need-wide-requires-3
-wide-requires-3 c κs = search needs
-
-third : (c : tie.Then7) → c .before .before .before .wide3 .result < 128
-third c = ltb-true _ _ (c .if7 .taken)
-
-mul-t27 : tie.Need-mul-t27
-mul-t27 c = omega (arith, third c)
-
-add-t28 : tie.Need-add-t28
-add-t28 c = omega (arith, third c)
-
-mul-t29 : tie.Need-mul-t29
-mul-t29 c = omega (arith, third c)
-
-add-t30 : tie.Need-add-t30
-add-t30 c = omega (arith, third c)
-
-add-t31 : tie.Need-add-t31
-add-t31 c = search needs
+add-t7 : tie.Need-add-t7
+add-t7 c = let f = c .before in
+    let i = read-inside _ _ _ _ _ (value f) (whole-inside _ _ (f .before .before .before .before .before .before .pre)) in
+    omega arith
 
 returns-3 : tie.Need-returns-3
-returns-3 c = let w = c .before .before .before in let v = w .before .before .before in let i = v .before .before in
-    sym (three-bytes _ _ _ (i .before .wide .ensures) _ _ (v .wide2 .ensures) (w .wide3 .ensures) (omega arith) (i .if2 .left)
-    (c .before .before .if5 .taken) (ltb-true _ _ (c .before .if6 .taken)) (third c))
-
-read-any-requires : tie.Need-read-any-requires
-read-any-requires c κs = search needs
-
-returns-4 : tie.Need-returns-4
-returns-4 c = search needs
+returns-3 c = sym (value (c .before))
 
 pub read-whole-spec : {M : Type 1} → statement M
 read-whole-spec =
     tie.close
     (tie.spec
-    sub-if1
-    shared-slice-read-wide
-    wide-requires
-    add-t12
+    sub-read-number
+    part-read-number-start
+    part-read-number-end
+    read-number-requires
+    enum-told
+    refuse-requires
     returns
-    add-wide
-    shared-slice-read-wide-2
-    wide-requires-2
-    mul-t18
-    add-t19
-    add-t20
+    enum-known-found
+    refuse-requires-2
     returns-2
-    add-wide-2
-    shared-slice-read-wide-3
-    wide-requires-3
-    mul-t27
-    add-t28
-    mul-t29
-    add-t30
-    add-t31
-    returns-3
-    read-any-requires
-    returns-4)
+    add-t7
+    returns-3)

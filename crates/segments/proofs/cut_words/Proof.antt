@@ -45,11 +45,11 @@ reached-requires c κs = (c .before .pre .0 .few, c .before .pre .2, behind-none
 loop-holds : tie.Need-loop-holds Inv-loop μ-loop
 loop-holds c = (sym (cut-none _ _), omega arith, words-none _ _ _ _, behind-none, c .reached .ensures)
 
-mul-last : tie.Need-mul-last Inv-loop μ-loop
-mul-last c = omega arith
+mul-first : tie.Need-mul-first Inv-loop μ-loop
+mul-first c = omega arith
 
-element-copy-out-last : tie.Need-element-copy-out-last Inv-loop μ-loop
-element-copy-out-last c = omega arith
+element-copy-out-first : tie.Need-element-copy-out-first Inv-loop μ-loop
+element-copy-out-first c = omega arith
 
 -- the number of the node that ends next
 node : (c : tie.Then1 Inv-loop μ-loop) → at (c .before .before .before .before .before .args .finishing .now) (c .before .before .loop .ended .next) < 64
@@ -135,8 +135,8 @@ cut-words-spec =
     μ-loop
     reached-requires
     loop-holds
-    mul-last
-    element-copy-out-last
+    mul-first
+    element-copy-out-first
     mul-to
     element-copy-out-to
     reached-requires-2

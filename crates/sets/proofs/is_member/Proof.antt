@@ -1,5 +1,5 @@
 -- `sets::is_member` meets its contract: shifting a word right by k and masking leaves its digit at k.
-use mathlib.Core.Path.{_≡_, ap, _∙_}
+use mathlib.Core.Path.{ap, _∙_}
 use Prim.Native.Nat.{ℕ, _^_, _/_}
 use borrow.Author.Needs.{needs}
 use lib.Dec.{eqb}

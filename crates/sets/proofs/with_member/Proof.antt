@@ -1,5 +1,5 @@
 -- `sets::with_member` meets its contract: `1 << k` is the word of k alone, and joining it puts k in.
-use mathlib.Core.Path.{_≡_, ap, sym, _∙_}
+use mathlib.Core.Path.{ap, sym, _∙_}
 use borrow.Author.Needs.{needs}
 use lib.Bits.{bitOr}
 use Rattle.sets.proofs.Bits.{one-shl, with-or}

@@ -7,8 +7,7 @@ use Rattle.records.specs.declared.Outcome.the-variants.{Accepted}
 use Rattle.records.specs.declared.Reading.{Reading}
 use Rattle.records.specs.Reading.{readingOf}
 use Rattle.records.proofs.Answers.{accepted-table}
-use Rattle.plans.specs.Calls.{onTable}
-use Rattle.plans.specs.Drawn.{answerOf}
+use Rattle.plans.specs.Calls.{onTable, answerOf}
 use Rattle.plans.proofs.Tests.{task-refused, task-read}
 use Rattle.sheets.specs.Lines.{refusedLine}
 use Rattle.sheets.specs.Printed.{tableSheet, sheetOf}

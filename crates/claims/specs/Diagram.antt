@@ -1,0 +1,45 @@
+-- "Timing diagram and segments", of every accepted table: its starts, cuts and offsets are what document 01's sentences say, and nothing else
+-- is; so nobody has to trust the rounds and steps of their definitions.
+use mathlib.Core.Path.{_≡_}
+use Prim.Native.Nat.{ℕ, _+_, _≤_, _<_}
+use Rattle.plain.specs.At.{at}
+use Rattle.sets.specs.Greatest.{greatest}
+use Rattle.tables.specs.declared.TaskTable.{TaskTable}
+use Rattle.segments.specs.Cut.{cut}
+use Rattle.segments.specs.Cutting.{Cutting}
+use Rattle.plans.specs.Diagram.{start, finish, segmentCount}
+use Rattle.plans.specs.Shares.{deadline, offset}
+use Rattle.plans.specs.Accepted.{Accepted}
+
+-- each node's B is "0 without parents, else the greatest parent's" B plus W
+abbrev pub Follows : TaskTable → (W B : ℕ → ℕ) → Type 0
+Follows t W B = (v : ℕ) → v < t .count → B v ≡ greatest (t .count) (at (t .parents) v) (λ p. B p + W p)
+
+-- B follows so, and nothing else does
+pub record Ruled (t : TaskTable) (W B : ℕ → ℕ) : Type 0 where
+  pub follows : Follows t W B
+  pub only : (A : ℕ → ℕ) → Follows t W A → (v : ℕ) → v < t .count → A v ≡ B v
+
+-- c 0, .. c s are 0, the table's starts and its finishes, each once, ascending, and nothing else
+abbrev pub Cuts : TaskTable → (s : ℕ) (c : ℕ → ℕ) → Type 0
+Cuts t s c = Cutting (t .count) (start t) (finish t) s c
+
+-- the cuts that the table's segments lie between
+abbrev pub cutOf : TaskTable → ℕ → ℕ
+cutOf t j = cut (t .count) (finish t) j
+
+-- the sentences
+pub record Timed (t : TaskTable) : Type 0 where
+  -- "A node without parents starts at 0; any other starts at the latest finish of its parents"
+  pub starts : Ruled t (at (t .execution)) (start t)
+  -- "Finish is start plus execution"
+  pub finishes : (v : ℕ) → v < t .count → finish t v ≡ start t v + at (t .execution) v
+  -- "Cut [0, P] at every start and finish"; there is one way to
+  pub cuts : Cuts t (segmentCount t) (cutOf t)
+  pub only-cuts : (s : ℕ) (c : ℕ → ℕ) → Cuts t s c → (s ≡ segmentCount t) × ((j : ℕ) → j ≤ s → c j ≡ cutOf t j)
+  -- "Its offset is 0 without parents, else the greatest parent's offset plus deadline"
+  pub offsets : Ruled t (deadline t) (offset t)
+
+-- they hold of every table that planning accepts
+abbrev pub TablesTimed : Type 0
+TablesTimed = (t : TaskTable) → Accepted t → Timed t
