@@ -1,10 +1,11 @@
 -- `boards::verdict_for` meets its contract: it is the definition's inequality, and on a sound board no side of it wraps.
-use Prim.Native.Nat.{ℕ, _*_, _+_, _^_, _≤_, _<_}
+use mathlib.Core.Path.{ap₂}
+use Prim.Native.Nat.{ℕ, _*_, _+_, _-_, _^_, _≤_, _<_}
 use native.Mathlib.Nat.{mul-le-mul, lt-of-le-of-lt}
 use native.Mathlib.Omega.{arith}
-use lib.Dec.{lit<}
+use lib.Dec.{leb, lit<}
 use borrow.Author.Needs.{needs}
-use Rattle.tables.specs.Limits.{countMax, densityMax}
+use Rattle.tables.specs.Limits.{countMax, densityMax, million}
 use Rattle.boards.specs.Row.{rowsMax}
 use Rattle.boards.specs.Verdict.{coresMax}
 use Rattle.boards.proofs.Sound.{sumOf-le, largestOf-le}
@@ -42,7 +43,9 @@ mul-result-2 : tie.Need-mul-result-2
 mul-result-2 c = search needs
 
 returns : tie.Need-returns
-returns c = rw (c .before .sum-of .ensures, c .largest-of .ensures)
+returns c =
+    let m = c .before .before .args .cores in
+    ap₂ (λ (S M : ℕ). leb (S + (m - 1) * M) (m * million)) (c .before .sum-of .ensures) (c .largest-of .ensures)
 
 pub verdict-for-spec : {M : Type 1} → statement M
 verdict-for-spec =

@@ -67,7 +67,7 @@ number-within-requires : tie.Need-number-within-requires
 number-within-requires c κs = search needs
 
 returns-4 : tie.Need-returns-4
-returns-4 c = search needs
+returns-4 c = c .number-within .ensures
 
 pub read-number-spec : {M : Type 1} → statement M
 read-number-spec =
