@@ -17,8 +17,8 @@ exactDensity x q n = record { upper = x * q; lower = n }
 abbrev pub whole : ℕ → Fraction
 whole k = record { upper = k; lower = 1 }
 
--- "a/b + c/d is (a × d + c × b) over (b × d)"
 infixl 60 _plus_
+-- "a/b + c/d is (a × d + c × b) over (b × d)"
 abbrev pub _plus_ : Fraction → Fraction → Fraction
 x plus y = record { upper = x .upper * y .lower + y .upper * x .lower; lower = x .lower * y .lower }
 

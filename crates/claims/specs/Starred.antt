@@ -5,6 +5,7 @@ use Prim.Native.Nat.{ℕ}
 use lib.ListN.{length, drop, replicate}
 use Rattle.refusals.specs.declared.Answer.{Answer}
 use Rattle.refusals.specs.Answer.{accepted, refused}
+use Rattle.plans.specs.Words.{wordsMax}
 use Rattle.plans.specs.Calls.{planCall}
 use Rattle.boards.specs.declared.Row.{Row}
 use Rattle.boards.specs.Row.{rowAt}
@@ -24,7 +25,7 @@ pub data Entry : Type 0 where
 
 -- the words that are lent: as many as the largest plan has, all 0
 abbrev pub blank : List ℕ
-blank = replicate 387 0
+blank = replicate wordsMax 0
 
 -- a record is admitted
 abbrev pub admitting : List ℕ → Call
@@ -92,8 +93,8 @@ starred =
     ∷ answers [] 65 (refused 15 0)
     ∷ []
 
--- every entry of a list comes out as it says
 infixr 40 _also_
+-- every entry of a list comes out as it says
 pub data AllCome : List Entry → Type 0 where
   done : AllCome []
   _also_ : {e : Entry} {es : List Entry} → Comes e → AllCome es → AllCome (e ∷ es)

@@ -53,12 +53,7 @@ fn refused(name: &[u8], record: &[u8], number: u64, place: u64) {
 fn alone(name: &[u8], record: &[u8], cores: u64, yes: u64) {
     let mut words = [0u64; plans::WORDS_MAX];
     let change = admissions::admission(record, &mut words, Board::empty());
-    let at = change.at;
-    if 16 <= at {
-        say(name, false);
-        return;
-    }
-    let board = boards::with_row(Board::empty(), at, change.row);
+    let board = boards::with_row(Board::empty(), change.at, change.row);
     let answer = boards::asked(board, cores);
     say(name, answer.refusal == 0 && answer.value == yes);
 }

@@ -7,7 +7,7 @@ use Rattle.plain.specs.Sums.{sumTo}
 use Rattle.plain.proofs.Sums.{sumTo-none, sumTo-more, sum-under}
 use Rattle.boards.specs.Row.{rowsMax, rowAt}
 use Rattle.boards.specs.Verdict.{sumOf}
-use Rattle.boards.proofs.Sound.{sumOf-le}
+use Rattle.boards.proofs.Sound.{sumOf-le, row-largest-le}
 use Rattle.boards.proofs.sum_of.Statement.{statement}
 use Rattle.boards.proofs.sum_of.Tie as tie
 
@@ -26,12 +26,13 @@ mul-row c = omega arith
 element-copy-out-row : tie.Need-element-copy-out-row Inv-loop μ-loop
 element-copy-out-row c = omega arith
 
+-- the sums so far leave room for any density of a sound row
 add-sum : tie.Need-add-sum Inv-loop μ-loop
 unfolding sumOf
 add-sum c =
     let start = c .before .before .before .before in
     let head = c .before .before .before .loop in
-    record { fits = omega (arith, sumOf-le (start .pre), sum-under (λ i. rowAt (start .args .t1 .rows) i .sum) (head .k) rowsMax (omega arith)) }
+    record { fits = omega (arith, sumOf-le (start .pre), sum-under (λ i. rowAt (start .args .t1 .rows) i .sum) (head .k) rowsMax (omega arith), row-largest-le (start .pre) (head .k) (omega arith)) }
 
 add-k : tie.Need-add-k Inv-loop μ-loop
 add-k c = omega arith
