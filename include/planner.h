@@ -1,6 +1,11 @@
 /* The planner's four calls. A call returns for every content of what it is lent; a refusal changes nothing. The caller
- * sees to it that each pointer is aligned, not NULL and valid for its length, that what is lent to one call does not
- * overlap, and that no other thread uses it meanwhile. */
+ * sees to the memory, in each call:
+ *   - A length is 64 bits on every machine. It counts bytes of a record, words of a plan, rows of a board.
+ *   - Each pointer is not NULL and valid for its length.
+ *   - The words, the rows and the memory that the answer is returned in are aligned to 8 bytes. Compilers for 32-bit x86
+ *     align uint64_t to 4 unless told otherwise (gcc and clang: -malign-double). A record may begin at any byte.
+ *   - Nothing that is lent overlaps: record, words and board are apart, and the returned answer is apart from them.
+ *   - No other thread uses what is lent meanwhile. */
 #ifndef PLANNER_H
 #define PLANNER_H
 
@@ -39,18 +44,20 @@ struct planner_row {
  *   then s times (threads, length, deadline numerator), then n times (offset numerator, deadline numerator, density).
  * Offsets and deadlines are in time units times Q; densities are in millionths, rounded up.
  * value: the number of words written. Refusals, in this order: 16; 1 to 9 as met from the left; 10; 11. */
-struct planner_answer planner_plan(const uint8_t *record, size_t record_length, uint64_t *words, size_t words_length);
+struct planner_answer planner_plan(const uint8_t *record, uint64_t record_length,
+                                   uint64_t *words, uint64_t words_length);
 
 /* Plans the task as planner_plan does and enters it in the lowest free row of the board.
  * value: the row filled, 0 .. 15. Refusals: 16; 17; 1 to 9; 10; 11; 12 (the id stands already); 13 (no row is free). */
-struct planner_answer planner_admit(const uint8_t *record, size_t record_length, uint64_t *words, size_t words_length,
-                                    struct planner_row *board, size_t board_length);
+struct planner_answer planner_admit(const uint8_t *record, uint64_t record_length,
+                                    uint64_t *words, uint64_t words_length,
+                                    struct planner_row *board, uint64_t board_length);
 
 /* Frees the row of the task with this id. value: the row freed. Refusals: 17; 14 (no such task; id 0 never stands). */
-struct planner_answer planner_withdraw(struct planner_row *board, size_t board_length, uint64_t id);
+struct planner_answer planner_withdraw(struct planner_row *board, uint64_t board_length, uint64_t id);
 
 /* Whether the standing tasks pass the density test on this number of cores (1 .. 64). value: 1 for yes, 0 for no.
  * Writes nothing. Refusals: 17; 15 (0 cores, or more than 64). */
-struct planner_answer planner_ask(const struct planner_row *board, size_t board_length, uint64_t cores);
+struct planner_answer planner_ask(const struct planner_row *board, uint64_t board_length, uint64_t cores);
 
 #endif

@@ -7,6 +7,7 @@ use lib.Dec.{ltb}
 use borrow.Author.Tests.{eqb-false}
 use Rattle.plain.specs.Pick.{pick}
 use Rattle.refusals.specs.Numbers.{idStands, boardFull}
+use Rattle.refusals.specs.Refusal.{refusal}
 use Rattle.refusals.specs.Answer.{accepted, refused}
 use Rattle.boards.specs.declared.Row.{Row}
 use Rattle.boards.specs.declared.Change.{Change}
@@ -22,7 +23,7 @@ module _ (rows : List Row) (row : Row) where
   -- what the two tests of `placed` pick for a row
   abbrev picked : Bool → Bool → Row → Change
   picked stands free r =
-      pick stands (unchanged rows (refused idStands 0)) (pick free (record { at = freeAt rows; row = r; answer = accepted (freeAt rows) }) (unchanged rows (refused boardFull 0)))
+      pick stands (unchanged rows (refused (refusal idStands 0))) (pick free (record { at = freeAt rows; row = r; answer = accepted (freeAt rows) }) (unchanged rows (refused (refusal boardFull 0))))
 
   -- a row is refused as its id is
   pub refused-alike : (placed rows (idOnly (row .id)) .answer .refusal ≡ 0 → ⊥) → placed rows row ≡ placed rows (idOnly (row .id))

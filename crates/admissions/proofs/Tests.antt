@@ -1,5 +1,5 @@
 -- What admitting comes to by the tests that it makes, in their order.
-use mathlib.Core.Path.{_≡_, refl, ap, _∙_}
+use mathlib.Core.Path.{_≡_, refl, sym, ap, _∙_}
 use mathlib.Core.Bool.{true, false}
 use mathlib.Core.List.{List}
 use Prim.Native.Nat.{ℕ, _≤_, _<_}
@@ -9,16 +9,20 @@ use lib.ListN.{length}
 use borrow.Author.Tests.{lt-ltb, le-ltb, eq-eqb, ne-eqb}
 use Rattle.refusals.specs.Numbers.{fewWords, unsoundBoard}
 use Rattle.refusals.specs.declared.Answer.{Answer}
+use Rattle.refusals.specs.declared.Refusal.{Refusal}
+use Rattle.refusals.specs.declared.Outcome.{Outcome}
+use Rattle.refusals.specs.declared.Outcome.the-variants as outcome
+use Rattle.refusals.specs.Refusal.{refusal}
 use Rattle.refusals.specs.Answer.{accepted, refused}
+use Rattle.refusals.specs.After.{After}
 use Rattle.tables.specs.declared.TaskTable.{TaskTable}
-use Rattle.records.specs.declared.Outcome.{Outcome}
-use Rattle.records.specs.declared.Outcome.the-variants as outcome
 use Rattle.plans.specs.Diagram.{segmentCount}
 use Rattle.plans.specs.Words.{wordCount, wordsMax, written}
-use Rattle.plans.specs.Accepted.{Accepted}
-use Rattle.plans.specs.Calls.{onTable, onTask, unplanned, plannedUnless}
-use Rattle.plans.specs.Drawn.{outcomeOf}
-use Rattle.plans.proofs.Tests.{on-fits, table-refused, table-accepted, held-back, not-held}
+use Rattle.plans.specs.Calls.{onTable, onTask, unplanned}
+use Rattle.plans.specs.Inner.Planned.{Planned}
+use Rattle.plans.specs.Inner.Drawn.{outcomeOf}
+use Rattle.plans.specs.Inner.Table.{unlessLater, tablePlan}
+use Rattle.plans.proofs.Tests.{on-fits, table-refused, table-accepted, later-refuses, later-accepts}
 use Rattle.boards.specs.declared.Row.{Row}
 use Rattle.boards.specs.declared.Change.{Change}
 use Rattle.boards.specs.Sound.{isSound}
@@ -55,26 +59,30 @@ module _ (rows : List Row) (words : List ℕ) (t : TaskTable) {c : Change} (foun
       let alike = accepted-alike rows (rowOf t) f in
       entered-accepted rows words t (rw alike f) ∙ rw (alike, found)
 
--- a table by what planning it answered, where the place found for it was held
+-- a table by what planning it left, where the board's answer for its id was the later one
 module _ (rows : List Row) (words : List ℕ) (t : TaskTable) (c : Change) (found : c ≡ placed rows (idOnly (t .id))) {a : Answer} {w : List ℕ}
-    (answered : a ≡ onTable (unplanned words) (plannedUnless (c .answer) words) t .answer) (left : w ≡ onTable (unplanned words) (plannedUnless (c .answer) words) t .words) where
+    (left : record { answer = a; lent = w } ≡ tablePlan (c .answer) words t) where
+  -- what planning left is this
+  is : {x : After (List ℕ)} → tablePlan (c .answer) words t ≡ x → (a ≡ x .answer) × (w ≡ x .lent)
+  is e = (ap (λ (p : After (List ℕ)). p .answer) (left ∙ e), ap (λ (p : After (List ℕ)). p .lent) (left ∙ e))
+
   -- 10 to 13: neither the board nor the words have changed
   pub table-out : (a .refusal ≡ 0 → ⊥) → onTable (notAdmitted rows words) (entered rows words) t ≡ record { change = unchanged rows a; words = w }
   table-out n = go (outcomeOf t) refl
     where
-      held : outcomeOf t ≡ outcome.Accepted → Dec (c .answer .refusal ≡ 0) → onTable (notAdmitted rows words) (entered rows words) t ≡ record { change = unchanged rows a; words = w }
-      held e (yes z) = absurd (n (rw (answered, table-accepted (unplanned words) (plannedUnless (c .answer) words) t e, not-held (c .answer) words t z)))
-      held e (no m) =
-          let so = table-accepted (unplanned words) (plannedUnless (c .answer) words) t e ∙ held-back (c .answer) words t m in
+      later : outcomeOf t ≡ outcome.Accepted → Dec (c .answer .refusal ≡ 0) → onTable (notAdmitted rows words) (entered rows words) t ≡ record { change = unchanged rows a; words = w }
+      later e (yes z) = absurd (n (ap (λ (x : Answer). x .refusal) (is (table-accepted (unplanned words) (unlessLater (c .answer) words) t e ∙ later-accepts (c .answer) words t z) .0)))
+      later e (no m) =
+          let so = is (table-accepted (unplanned words) (unlessLater (c .answer) words) t e ∙ later-refuses (c .answer) words t m) in
           let same : c ≡ unchanged rows (c .answer) = rw found (refused-unchanged rows (idOnly (t .id)) (rw found at m)) in
-          table-accepted (notAdmitted rows words) (entered rows words) t e ∙ stays-out rows words t found m ∙ rw (answered, left, so) (ap (λ (x : Change). record { change = x; words = words }) same)
+          table-accepted (notAdmitted rows words) (entered rows words) t e ∙ stays-out rows words t found m ∙ rw (so .0, so .1) (ap (λ (x : Change). record { change = x; words = words }) same)
 
       go : (o : Outcome) → outcomeOf t ≡ o → onTable (notAdmitted rows words) (entered rows words) t ≡ record { change = unchanged rows a; words = w }
-      go outcome.Accepted e = held e (ℕ-discrete (c .answer .refusal) 0)
-      go (outcome.Refused r) e = table-refused (notAdmitted rows words) (entered rows words) t e ∙ rw (answered, left, table-refused (unplanned words) (plannedUnless (c .answer) words) t e)
+      go outcome.Accepted e = later e (ℕ-discrete (c .answer .refusal) 0)
+      go (outcome.Refused r) e = let so = is (table-refused (unplanned words) (unlessLater (c .answer) words) t e) in table-refused (notAdmitted rows words) (entered rows words) t e ∙ rw (so .0, so .1)
 
   -- none of them: the plan is written, and the row goes to the place
-  pub table-in : a .refusal ≡ 0 → Accepted t
+  pub table-in : a .refusal ≡ 0 → Planned t
       → (a ≡ accepted (wordCount (segmentCount t) (t .count))) × (w ≡ written t words)
       × (onTable (notAdmitted rows words) (entered rows words) t ≡ record { change = record { at = c .at; row = rowOf t; answer = c .answer }; words = written t words })
   table-in z ok = go (ℕ-discrete (c .answer .refusal) 0)
@@ -82,19 +90,19 @@ module _ (rows : List Row) (words : List ℕ) (t : TaskTable) (c : Change) (foun
       go : Dec (c .answer .refusal ≡ 0) → (a ≡ accepted (wordCount (segmentCount t) (t .count))) × (w ≡ written t words)
           × (onTable (notAdmitted rows words) (entered rows words) t ≡ record { change = record { at = c .at; row = rowOf t; answer = c .answer }; words = written t words })
       go (yes e) =
-          let so = on-fits (unplanned words) (plannedUnless (c .answer) words) t (ok .free) (ok .fits) ∙ not-held (c .answer) words t e in
-          (rw (answered, so), rw (left, so), on-fits (notAdmitted rows words) (entered rows words) t (ok .free) (ok .fits) ∙ goes-in rows words t found e)
-      go (no m) = absurd (m (rw (answered, on-fits (unplanned words) (plannedUnless (c .answer) words) t (ok .free) (ok .fits), held-back (c .answer) words t m) at z))
+          let so = is (on-fits (unplanned words) (unlessLater (c .answer) words) t (ok .free) (ok .fits) ∙ later-accepts (c .answer) words t e) in
+          (so .0, so .1, on-fits (notAdmitted rows words) (entered rows words) t (ok .free) (ok .fits) ∙ goes-in rows words t found e)
+      go (no m) = absurd (m (sym (ap (λ (x : Answer). x .refusal) (is (on-fits (unplanned words) (unlessLater (c .answer) words) t (ok .free) (ok .fits) ∙ later-refuses (c .answer) words t m) .0)) ∙ z))
 
 -- the words and the board lent
 module _ (bytes words : List ℕ) (rows : List Row) where
   -- 16
-  pub few : length words < wordsMax → admission bytes words rows ≡ notAdmitted rows words fewWords 0
+  pub few : length words < wordsMax → admission bytes words rows ≡ notAdmitted rows words (refusal fewWords 0)
   unfolding admission
   few h = rw (lt-ltb (length words) wordsMax h)
 
   -- 17
-  pub unsound : wordsMax ≤ length words → isSound rows ≡ false → admission bytes words rows ≡ notAdmitted rows words unsoundBoard 0
+  pub unsound : wordsMax ≤ length words → isSound rows ≡ false → admission bytes words rows ≡ notAdmitted rows words (refusal unsoundBoard 0)
   unfolding admission
   unsound h e = rw (le-ltb (length words) wordsMax h, e)
 
@@ -104,6 +112,6 @@ module _ (bytes words : List ℕ) (rows : List Row) where
   sound h e = rw (le-ltb (length words) wordsMax h, e)
 
 -- a refusal as the code returns it: row 0 written as it was, and the words as they were lent
-pub leaves : (rows : List Row) {words : List ℕ} {number place : ℕ} {x : Admission} {c : Change} {a : Answer} → x ≡ notAdmitted rows words number place → c ≡ unchanged rows a → a ≡ refused number place
+pub leaves : (rows : List Row) {words : List ℕ} {r : Refusal} {x : Admission} {c : Change} {a : Answer} → x ≡ notAdmitted rows words r → c ≡ unchanged rows a → a ≡ refused r
     → (c ≡ x .change) × (c .at < rowsMax) × (words ≡ x .words)
 leaves rows e f g = rw (e, f, g) (refl, omega arith, refl)

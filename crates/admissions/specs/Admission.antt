@@ -5,7 +5,8 @@ use lib.Dec.{eqb, ltb}
 use lib.ListN.{length}
 use Rattle.plain.specs.Pick.{pick}
 use Rattle.refusals.specs.Numbers.{fewWords, unsoundBoard}
-use Rattle.refusals.specs.declared.Answer.{Answer}
+use Rattle.refusals.specs.declared.Refusal.{Refusal}
+use Rattle.refusals.specs.Refusal.{refusal}
 use Rattle.refusals.specs.Answer.{refused}
 use Rattle.tables.specs.declared.TaskTable.{TaskTable}
 use Rattle.plans.specs.Shares.{density}
@@ -13,7 +14,7 @@ use Rattle.plans.specs.Words.{wordsMax, written}
 use Rattle.plans.specs.Calls.{onTask}
 use Rattle.boards.specs.declared.Row.{Row}
 use Rattle.boards.specs.declared.Change.{Change}
-use Rattle.boards.specs.Row.{figures}
+use Rattle.boards.specs.Row.{taskRow}
 use Rattle.boards.specs.Sound.{isSound}
 use Rattle.boards.specs.Change.{unchanged, placed}
 
@@ -24,11 +25,11 @@ pub record Admission : Type 0 where
 
 -- a task's row: "id, node count, density sum and largest density"
 abbrev pub rowOf : TaskTable → Row
-rowOf t = figures (t .id) (t .count) (density t)
+rowOf t = taskRow (t .id) (t .count) (density t)
 
 -- "A refusal returns its number and place ..; plan words and board rows stay untouched"
-abbrev pub notAdmitted : List Row → List ℕ → ℕ → ℕ → Admission
-notAdmitted rows words number place = record { change = unchanged rows (refused number place); words = words }
+abbrev pub notAdmitted : List Row → List ℕ → Refusal → Admission
+notAdmitted rows words r = record { change = unchanged rows (refused r); words = words }
 
 -- 12, 13; else "admitting writes the same plan words and returns the number (0..15) of the row it filled"
 unfoldable pub entered : List Row → List ℕ → TaskTable → Admission
@@ -39,10 +40,6 @@ entered rows words t =
 -- 16, 17, then 1 to 9, 10, 11 by `onTask`, then 12, 13 by `entered`
 unfoldable pub admission : List ℕ → List ℕ → List Row → Admission
 admission bytes words rows =
-    pick (ltb (length words) wordsMax) (notAdmitted rows words fewWords 0)
+    pick (ltb (length words) wordsMax) (notAdmitted rows words (refusal fewWords 0))
     (pick (isSound rows) (onTask (notAdmitted rows words) (entered rows words) bytes)
-    (notAdmitted rows words unsoundBoard 0))
-
--- 16, 17 where the lent slice isn't one of 16 rows, so many words being lent
-abbrev pub noBoard : ℕ → Answer
-noBoard words = pick (ltb words wordsMax) (refused fewWords 0) (refused unsoundBoard 0)
+    (notAdmitted rows words (refusal unsoundBoard 0)))

@@ -9,6 +9,7 @@ use borrow.Author.Tests.{ltb-true, ltb-false, eqb-true, eqb-false}
 use Rattle.plain.specs.Pick.{one}
 use Rattle.refusals.specs.Numbers.{idStands, boardFull, notStanding, badCores, unsoundBoard}
 use Rattle.refusals.specs.declared.Answer.{Answer}
+use Rattle.refusals.specs.Refusal.{refusal}
 use Rattle.refusals.specs.Answer.{accepted, refused}
 use Rattle.boards.specs.declared.Row.{Row}
 use Rattle.boards.specs.declared.Change.{Change}
@@ -17,14 +18,14 @@ use Rattle.boards.specs.Sound.{Sound, isSound}
 use Rattle.boards.specs.Find.{placeOf, freeAt}
 use Rattle.boards.specs.Verdict.{verdict, coresMax}
 use Rattle.boards.specs.Change.{unchanged, placed, withdrawn, asked}
-use Rattle.boards.proofs.Tests.{true-false, pick-case}
+use Rattle.plain.proofs.Picks.{true-false, pick-case}
 use Rattle.boards.proofs.Sound.{sound-test, test-sound}
 
 -- a task's row: the id stands already; it goes to the lowest free row; all rows are taken
 pub data Placing (rows : List Row) (row : Row) : Change → Type 0 where
-  stands : placeOf (row .id) rows < rowsMax → Placing rows row (unchanged rows (refused idStands 0))
+  stands : placeOf (row .id) rows < rowsMax → Placing rows row (unchanged rows (refused (refusal idStands 0)))
   fills : rowsMax ≤ placeOf (row .id) rows → freeAt rows < rowsMax → Placing rows row (record { at = freeAt rows; row = row; answer = accepted (freeAt rows) })
-  full : rowsMax ≤ placeOf (row .id) rows → rowsMax ≤ freeAt rows → Placing rows row (unchanged rows (refused boardFull 0))
+  full : rowsMax ≤ placeOf (row .id) rows → rowsMax ≤ freeAt rows → Placing rows row (unchanged rows (refused (refusal boardFull 0)))
 
 -- one of the three
 pub placing : (rows : List Row) (row : Row) → Placing rows row (placed rows row)
@@ -38,8 +39,8 @@ placing rows row =
 
 -- a withdrawal: the board isn't sound; the id isn't standing ("0 never stands"); its row becomes free
 pub data Withdrawing (rows : List Row) (id : ℕ) : Change → Type 0 where
-  unsound : (Sound rows → ⊥) → Withdrawing rows id (unchanged rows (refused unsoundBoard 0))
-  absent : Sound rows → (id ≡ 0) ⊎ (rowsMax ≤ placeOf id rows) → Withdrawing rows id (unchanged rows (refused notStanding 0))
+  unsound : (Sound rows → ⊥) → Withdrawing rows id (unchanged rows (refused (refusal unsoundBoard 0)))
+  absent : Sound rows → (id ≡ 0) ⊎ (rowsMax ≤ placeOf id rows) → Withdrawing rows id (unchanged rows (refused (refusal notStanding 0)))
   frees : Sound rows → (id ≡ 0 → ⊥) → placeOf id rows < rowsMax → Withdrawing rows id (record { at = placeOf id rows; row = freeRow; answer = accepted (placeOf id rows) })
 
 -- one of the three
@@ -57,8 +58,8 @@ withdrawing rows id =
 
 -- asking: the board isn't sound; the core count is out of its range; yes or no
 pub data Asking (rows : List Row) (m : ℕ) : Answer → Type 0 where
-  unsound : (Sound rows → ⊥) → Asking rows m (refused unsoundBoard 0)
-  outside : Sound rows → (m ≡ 0) ⊎ (coresMax < m) → Asking rows m (refused badCores 0)
+  unsound : (Sound rows → ⊥) → Asking rows m (refused (refusal unsoundBoard 0))
+  outside : Sound rows → (m ≡ 0) ⊎ (coresMax < m) → Asking rows m (refused (refusal badCores 0))
   told : Sound rows → 1 ≤ m → m ≤ coresMax → Asking rows m (accepted (one (verdict rows m)))
 
 -- one of the three

@@ -12,7 +12,7 @@ use Rattle.plain.proofs.Lists.{lt-or-ge}
 use Rattle.boards.specs.declared.Row.{Row}
 use Rattle.boards.specs.Row.{rowAt}
 use Rattle.boards.specs.Find.{placeOf}
-use Rattle.boards.proofs.Tests.{pick-case}
+use Rattle.plain.proofs.Picks.{pick-case}
 
 -- at most as many as there are rows
 pub place-le : (id : ℕ) (rows : List Row) → placeOf id rows ≤ length rows
@@ -38,14 +38,12 @@ place-before id (r ∷ rs) (suc k) h e = pick-case (λ p. suc k < p → ⊥) (eq
 pub place-at-most : (id : ℕ) (rows : List Row) (k : ℕ) → rowAt rows k .id ≡ id → placeOf id rows ≤ k
 place-at-most id rows k e = ⊎-elim (λ (h : k < placeOf id rows). absurd (place-before id rows k h e)) (λ (h : placeOf id rows ≤ k). h) (lt-or-ge k (placeOf id rows))
 
--- so the lowest row that has it is the place, and where none has it the place is their number
+-- so the lowest row that has it is the place
 pub place-is : (id : ℕ) (rows : List Row) (k : ℕ) → k < length rows → rowAt rows k .id ≡ id → ((i : ℕ) → i < k → rowAt rows i .id ≡ id → ⊥) → placeOf id rows ≡ k
 place-is id rows k h e before =
     let l = place-at-most id rows k e in
     le-antisymm l (⊎-elim (λ (g : placeOf id rows < k). absurd (before (placeOf id rows) g (place-id id rows (omega arith)))) (λ (g : k ≤ placeOf id rows). g) (lt-or-ge (placeOf id rows) k))
 
-pub place-none : (id : ℕ) (rows : List Row) → placeOf id rows ≡ length rows → (k : ℕ) → k < length rows → rowAt rows k .id ≡ id → ⊥
-place-none id rows q k h e = place-before id rows k (rw q h) e
-
+-- and where none has it the place is their number
 pub none-place : (id : ℕ) (rows : List Row) → ((k : ℕ) → k < length rows → rowAt rows k .id ≡ id → ⊥) → placeOf id rows ≡ length rows
 none-place id rows f = le-antisymm (place-le id rows) (⊎-elim (λ (h : placeOf id rows < length rows). absurd (f (placeOf id rows) h (place-id id rows h))) (λ (h : length rows ≤ placeOf id rows). h) (lt-or-ge (placeOf id rows) (length rows)))

@@ -14,7 +14,7 @@ use borrow.Author.Tests.{leb-true, leb-false}
 use Rattle.plain.proofs.Lists.{lt-or-ge}
 use Rattle.tables.specs.Limits.{million}
 use Rattle.boards.specs.Fractions.{Fraction, whole, _plus_, AtMost, times, larger, total, largest, exactLeft, ExactYes}
-use Rattle.boards.proofs.Tests.{pick-case}
+use Rattle.plain.proofs.Picks.{pick-case}
 
 ruleset sort = (mul-add, add-mul, mul-assoc, mul-comm, mul-left-comm)
 

@@ -6,10 +6,8 @@ use Prim.Native.Nat.{ℕ, _≤_, _<_}
 use native.Mathlib.Nat.{eq-or-lt-of-le}
 use native.Mathlib.Decide.{ℕ-discrete}
 use native.Mathlib.Omega.{arith}
-use lib.ListN.{length, set, length-set}
+use lib.ListN.{set, length-set}
 use lib.Seq.{getD-set-same, getD-set-other, set-getD}
-use borrow.Author.Tests.{eqb-false}
-use Rattle.refusals.specs.Numbers.{idStands, boardFull, notStanding, unsoundBoard}
 use Rattle.refusals.specs.declared.Answer.{Answer}
 use Rattle.boards.specs.declared.Row.{Row}
 use Rattle.boards.specs.declared.Change.{Change}
@@ -22,12 +20,13 @@ use Rattle.boards.proofs.Cases.{Placing, placing, Withdrawing, withdraw
 use Rattle.boards.proofs.Cases.Placing.{stands, fills, full}
 use Rattle.boards.proofs.Cases.Withdrawing.{unsound, absent, frees}
 
--- other rows keep their content, and the row written is the change's
-pub others-kept : (rows : List Row) (c : Change) (k : ℕ) → (k ≡ c .at → ⊥) → rowAt (changed rows c) k ≡ rowAt rows k
-others-kept rows c k n = getD-set-other rows (c .at) k (c .row) freeRow n
+-- "other rows keep their content"
+pub others-kept : (rows : List Row) (at : ℕ) (row : Row) (k : ℕ) → (k ≡ at → ⊥) → rowAt (set rows at row) k ≡ rowAt rows k
+others-kept rows at row k n = getD-set-other rows at k row freeRow n
 
-pub row-written : (rows : List Row) (c : Change) → c .at < length rows → rowAt (changed rows c) (c .at) ≡ c .row
-row-written rows c h = getD-set-same rows (c .at) (c .row) freeRow h
+-- and the row written is there
+pub row-written : {rows : List Row} → Sound rows → (at : ℕ) → at < rowsMax → (row : Row) → rowAt (set rows at row) at ≡ row
+row-written {rows} s at h row = getD-set-same rows at row freeRow (rw (s .sixteen) h)
 
 -- a refusal leaves every row as it was
 pub refusal-kept : (rows : List Row) (a : Answer) → changed rows (unchanged rows a) ≡ rows
@@ -38,10 +37,10 @@ write-sound : {rows : List Row} → Sound rows → (at : ℕ) → at < rowsMax �
 write-sound {rows} s at h row ok new = record { sixteen = length-set rows at row ∙ s .sixteen; each = each; once = once }
   where
     here : rowAt (set rows at row) at ≡ row
-    here = getD-set-same rows at row freeRow (rw (s .sixteen) h)
+    here = row-written s at h row
 
     there : (k : ℕ) → (k ≡ at → ⊥) → rowAt (set rows at row) k ≡ rowAt rows k
-    there k n = getD-set-other rows at k row freeRow n
+    there = others-kept rows at row
 
     each : (k : ℕ) → k < rowsMax → (rowAt (set rows at row) k ≡ freeRow) ⊎ Standing (rowAt (set rows at row) k)
     each k l = elim (ℕ-discrete k at) [
@@ -84,27 +83,18 @@ module _ (rows : List Row) (row : Row) where
   placed-refused = go (placing rows row)
     where
       go : {c : Change} → Placing rows row c → (c .answer .refusal ≡ 0 → ⊥) → changed rows c ≡ rows
-      go (stands h) n = set-getD rows 0 freeRow
+      go {c} (stands h) n = refusal-kept rows (c .answer)
       go (fills h f) n = absurd (n refl)
-      go (full h f) n = set-getD rows 0 freeRow
-
-  -- an accepted one writes a row that was free
-  pub placed-free : Sound rows → placed rows row .answer .refusal ≡ 0 → rowAt rows (placed rows row .at) ≡ freeRow
-  placed-free s = go (placing rows row)
-    where
-      go : {c : Change} → Placing rows row c → c .answer .refusal ≡ 0 → rowAt rows (c .at) ≡ freeRow
-      go (stands h) e = absurd (eqb-false idStands 0 refl e)
-      go (fills h f) e = place-free s f
-      go (full h f) e = absurd (eqb-false boardFull 0 refl e)
+      go {c} (full h f) n = refusal-kept rows (c .answer)
 
   -- a standing row keeps the board sound
   pub placed-sound : Sound rows → Standing row → Sound (changed rows (placed rows row))
   placed-sound s t = go (placing rows row)
     where
       go : {c : Change} → Placing rows row c → Sound (changed rows c)
-      go (stands h) = rw (set-getD rows 0 freeRow) s
+      go {c} (stands h) = rw (refusal-kept rows (c .answer)) s
       go (fills h f) = write-sound s (freeAt rows) f row (inr t) (λ k l e. absurd (place-before (row .id) rows k (omega arith) e))
-      go (full h f) = rw (set-getD rows 0 freeRow) s
+      go {c} (full h f) = rw (refusal-kept rows (c .answer)) s
 
 module _ (rows : List Row) (id : ℕ) where
   -- a refused withdrawal changes nothing
@@ -112,30 +102,9 @@ module _ (rows : List Row) (id : ℕ) where
   withdrawn-refused = go (withdrawing rows id)
     where
       go : {c : Change} → Withdrawing rows id c → (c .answer .refusal ≡ 0 → ⊥) → changed rows c ≡ rows
-      go (unsound u) n = set-getD rows 0 freeRow
-      go (absent s a) n = set-getD rows 0 freeRow
+      go {c} (unsound u) n = refusal-kept rows (c .answer)
+      go {c} (absent s a) n = refusal-kept rows (c .answer)
       go (frees s z h) n = absurd (n refl)
-
-  -- an accepted one frees the row that had the id
-  pub withdrawn-stood : withdrawn rows id .answer .refusal ≡ 0 → rowAt rows (withdrawn rows id .at) .id ≡ id
-  withdrawn-stood = go (withdrawing rows id)
-    where
-      go : {c : Change} → Withdrawing rows id c → c .answer .refusal ≡ 0 → rowAt rows (c .at) .id ≡ id
-      go (unsound u) e = absurd (eqb-false unsoundBoard 0 refl e)
-      go (absent s a) e = absurd (eqb-false notStanding 0 refl e)
-      go (frees s z h) e = place-stands s id h
-
-  -- after it no row has that id
-  pub withdrawn-gone : withdrawn rows id .answer .refusal ≡ 0 → (k : ℕ) → k < rowsMax → rowAt (changed rows (withdrawn rows id)) k .id ≡ id → ⊥
-  withdrawn-gone = go (withdrawing rows id)
-    where
-      go : {c : Change} → Withdrawing rows id c → c .answer .refusal ≡ 0 → (k : ℕ) → k < rowsMax → rowAt (changed rows c) k .id ≡ id → ⊥
-      go (unsound u) e = absurd (eqb-false unsoundBoard 0 refl e)
-      go (absent s a) e = absurd (eqb-false notStanding 0 refl e)
-      go (frees s z h) e = λ k l. elim (ℕ-discrete k (placeOf id rows)) [
-        | yes q ↦ rw (q, getD-set-same rows (placeOf id rows) freeRow freeRow (rw (s .sixteen) h)) (λ f. z (sym f))
-        | no n ↦ rw (getD-set-other rows (placeOf id rows) k freeRow freeRow n) (λ f. n (one-row s id z k l f))
-      ]
 
   -- it keeps the board sound
   pub withdrawn-sound : Sound rows → Sound (changed rows (withdrawn rows id))
@@ -143,5 +112,5 @@ module _ (rows : List Row) (id : ℕ) where
     where
       go : {c : Change} → Withdrawing rows id c → Sound (changed rows c)
       go (unsound u) = absurd (u s)
-      go (absent s a) = rw (set-getD rows 0 freeRow) s
+      go {c} (absent s a) = rw (refusal-kept rows (c .answer)) s
       go (frees s z h) = write-sound s (placeOf id rows) h freeRow (inl refl) (λ k l e. refl)

@@ -6,5 +6,5 @@ pub mod Keeping
 pub mod Figures
 pub mod Fractions
 pub mod Nodes
-pub mod Worked
+pub mod Dense
 pub mod Held

@@ -17,9 +17,10 @@ use Rattle.tables.specs.Limits.{idMax, countMax, densityMax, million}
 use Rattle.sets.specs.Member.{Member}
 use Rattle.boards.specs.declared.Row.{Row}
 use Rattle.boards.specs.Row.{freeRow, rowsMax, rowAt}
-use Rattle.boards.specs.Sound.{Standing, Sound, between, isFree, isStanding, isSoundRow, isNewAmong, isNew, isSound, allTo}
+use Rattle.boards.specs.Sound.{Standing, Sound, between, isFree, isStanding, isSoundRow, isNew, isSound, allTo}
 use Rattle.boards.specs.Verdict.{sumOf, largestOf, verdict}
-use Rattle.boards.proofs.Tests.{true-false, pick-case, both-true, true-both, between-true, true-between, allTo-true, true-allTo, allTo-same}
+use Rattle.plain.proofs.Picks.{true-false, pick-case}
+use Rattle.boards.proofs.Tests.{both-true, true-both, between-true, true-between, allTo-true, true-allTo, allTo-same}
 
 -- a free row
 pub free-test : (r : Row) → isFree r ≡ true → r ≡ freeRow
@@ -31,9 +32,6 @@ free-test r e =
   where
     same : r .id ≡ 0 → r .nodes ≡ 0 → r .sum ≡ 0 → r .largest ≡ 0 → r ≡ freeRow
     same p q s t = λ i. record { id = p i; nodes = q i; sum = s i; largest = t i }
-
-pub test-free : (r : Row) → r ≡ freeRow → isFree r ≡ true
-test-free r e = rw e
 
 -- a standing row
 pub standing-test : (r : Row) → isStanding r ≡ true → Standing r
@@ -73,56 +71,64 @@ unfolding isSoundRow
 test-row r (inl e) = rw e
 test-row r (inr s) = pick-case (λ t. t ≡ true) (isFree r) (λ q. refl) (λ q. test-standing s)
 
--- no id twice: where row i has row k's id, that is 0
-abbrev New : List Row → ℕ → Type 0
-New rows k = (i : ℕ) → i < k → rowAt rows i .id ≡ rowAt rows k .id → rowAt rows i .id ≡ 0
+-- no id twice: where id i is id k, it is 0
+abbrev New : (ℕ → ℕ) → ℕ → Type 0
+New ids k = (i : ℕ) → i < k → ids i ≡ ids k → ids i ≡ 0
 
-new-test : (rows : List Row) (k : ℕ) → isNew rows k ≡ true → New rows k
+new-test : (ids : ℕ → ℕ) (k : ℕ) → isNew ids k ≡ true → New ids k
 unfolding isNew
-new-test rows k e i h q =
-    pick-case (λ t. t ≡ true → rowAt rows i .id ≡ 0) (eqb (rowAt rows k .id) 0)
-    (λ z t. q ∙ eqb-true (rowAt rows k .id) 0 z)
-    (λ z t. absurd (true-false (allTo-true k _ t i h) (rw (eq-eqb (rowAt rows i .id) (rowAt rows k .id) q)))) e
+new-test ids k e i h q =
+    pick-case (λ t. t ≡ true → ids i ≡ 0) (eqb (ids k) 0)
+    (λ z t. q ∙ eqb-true (ids k) 0 z)
+    (λ z t. absurd (true-false (allTo-true k _ t i h) (rw (eq-eqb (ids i) (ids k) q)))) e
 
-test-new : (rows : List Row) (k : ℕ) → New rows k → isNew rows k ≡ true
+test-new : (ids : ℕ → ℕ) (k : ℕ) → New ids k → isNew ids k ≡ true
 unfolding isNew
-test-new rows k f =
-    pick-case (λ t. t ≡ true) (eqb (rowAt rows k .id) 0) (λ z. refl)
-    (λ z. true-allTo k _ (λ i h. rw (ne-eqb (rowAt rows i .id) (rowAt rows k .id) (λ q. eqb-false (rowAt rows k .id) 0 z (sym q ∙ f i h q)))))
+test-new ids k f =
+    pick-case (λ t. t ≡ true) (eqb (ids k) 0) (λ z. refl)
+    (λ z. true-allTo k _ (λ i h. rw (ne-eqb (ids i) (ids k) (λ q. eqb-false (ids k) 0 z (sym q ∙ f i h q)))))
 
--- ids that are those of the rows so far tell the same
-pub new-among : (rows : List Row) (ids : ℕ → ℕ) (k : ℕ) → ((i : ℕ) → i ≤ k → ids i ≡ rowAt rows i .id) → isNewAmong ids k ≡ isNew rows k
+-- ids that are the same so far tell the same
+pub new-same : (ids others : ℕ → ℕ) (k : ℕ) → ((i : ℕ) → i ≤ k → ids i ≡ others i) → isNew ids k ≡ isNew others k
 unfolding isNew
-new-among rows ids k e = rw (e k (omega arith), allTo-same k (λ i. pick (eqb (ids i) (rowAt rows k .id)) false true) (λ i. pick (eqb (rowAt rows i .id) (rowAt rows k .id)) false true) (λ i l. rw (e i (omega arith))))
+new-same ids others k e = rw (e k (omega arith), allTo-same k (λ i. pick (eqb (ids i) (others k)) false true) (λ i. pick (eqb (others i) (others k)) false true) (λ i l. rw (e i (omega arith))))
 
--- a row is new whose id has a remainder that no earlier id has
-pub new-apart : (rows : List Row) (k s : ℕ) → ((i : ℕ) → i < k → Member (rowAt rows i .id % 64) s) → (Member (rowAt rows k .id % 64) s → ⊥) → isNew rows k ≡ true
-new-apart rows k s has n = test-new rows k (λ i h q. absurd (n (subst (λ (x : ℕ). Member (x % 64) s) q (has i h))))
+-- an id is new that has a remainder which no earlier one has
+pub new-apart : (ids : ℕ → ℕ) (k s : ℕ) → ((i : ℕ) → i < k → Member (ids i % 64) s) → (Member (ids k % 64) s → ⊥) → isNew ids k ≡ true
+new-apart ids k s has n = test-new ids k (λ i h q. absurd (n (subst (λ (x : ℕ). Member (x % 64) s) q (has i h))))
+
+-- the ids of the rows
+abbrev pub idsOf : List Row → ℕ → ℕ
+idsOf rows k = rowAt rows k .id
 
 -- the whole test
 pub sound-test : (rows : List Row) → isSound rows ≡ true → Sound rows
 unfolding isSound
 sound-test rows e =
     let w = both-true (eqb (length rows) rowsMax) _ e in
-    let at : (k : ℕ) → k < rowsMax → (isSoundRow (rowAt rows k) ≡ true) × (isNew rows k ≡ true) = λ k h. both-true (isSoundRow (rowAt rows k)) (isNew rows k) (allTo-true rowsMax _ (w .1) k h) in
+    let at : (k : ℕ) → k < rowsMax → (isSoundRow (rowAt rows k) ≡ true) × (isNew (idsOf rows) k ≡ true) = λ k h. both-true (isSoundRow (rowAt rows k)) (isNew (idsOf rows) k) (allTo-true rowsMax _ (w .1) k h) in
     record {
       sixteen = eqb-true (length rows) rowsMax (w .0);
       each = λ k h. row-test (rowAt rows k) (at k h .0);
-      once = λ i j l h q. new-test rows j (at j h .1) i l q;
+      once = λ i j l h q. new-test (idsOf rows) j (at j h .1) i l q;
     }
 
 pub test-sound : {rows : List Row} → Sound rows → isSound rows ≡ true
 unfolding isSound
 test-sound {rows} s =
-    true-both (eq-eqb (length rows) rowsMax (s .sixteen)) (true-allTo rowsMax _ (λ k h. true-both (test-row (rowAt rows k) (s .each k h)) (test-new rows k (λ i l q. s .once i k l h q))))
+    true-both (eq-eqb (length rows) rowsMax (s .sixteen)) (true-allTo rowsMax _ (λ k h. true-both (test-row (rowAt rows k) (s .each k h)) (test-new (idsOf rows) k (λ i l q. s .once i k l h q))))
 
--- no figure of a sound board is greater than the ranges allow
 module _ {rows : List Row} (s : Sound rows) where
+  -- what a free row has and every standing one, each row of a sound board has
+  pub each-row : (P : Row → Type 0) → P freeRow → ((r : Row) → Standing r → P r) → (k : ℕ) → k < rowsMax → P (rowAt rows k)
+  each-row P free standing k h = ⊎-elim (λ (e : rowAt rows k ≡ freeRow). rw e free) (λ (t : Standing (rowAt rows k)). standing (rowAt rows k) t) (s .each k h)
+
+  -- so no figure is greater than the ranges allow
   pub row-sum-le : (k : ℕ) → k < rowsMax → rowAt rows k .sum ≤ countMax * densityMax
-  row-sum-le k h = ⊎-elim (λ (e : rowAt rows k ≡ freeRow). rw e zero-le) (λ (t : Standing (rowAt rows k)). le-trans (t .sum-high) (mul-le-mul (t .nodes-high) (t .largest-high))) (s .each k h)
+  row-sum-le = each-row (λ r. r .sum ≤ countMax * densityMax) zero-le (λ r t. le-trans (t .sum-high) (mul-le-mul (t .nodes-high) (t .largest-high)))
 
   pub row-largest-le : (k : ℕ) → k < rowsMax → rowAt rows k .largest ≤ densityMax
-  row-largest-le k h = ⊎-elim (λ (e : rowAt rows k ≡ freeRow). rw e zero-le) (λ (t : Standing (rowAt rows k)). t .largest-high) (s .each k h)
+  row-largest-le = each-row (λ r. r .largest ≤ densityMax) zero-le (λ r t. t .largest-high)
 
   pub sumOf-le : sumOf rows ≤ rowsMax * (countMax * densityMax)
   unfolding sumOf
@@ -132,16 +138,17 @@ module _ {rows : List Row} (s : Sound rows) where
   unfolding largestOf
   largestOf-le = maxTo-le rowsMax densityMax _ row-largest-le
 
--- the empty board: sound, S and M are 0, and yes for any number of cores
+-- the empty board is sound
 pub empty-sound : Sound (replicate rowsMax freeRow)
 unfolding isSound isSoundRow isNew allTo
 empty-sound = sound-test (replicate rowsMax freeRow) refl
 
-pub empty-sum : sumOf (replicate rowsMax freeRow) ≡ 0
+-- S and M are 0 there, so it is a yes for any number of cores
+empty-sum : sumOf (replicate rowsMax freeRow) ≡ 0
 unfolding sumOf sumTo
 empty-sum = refl
 
-pub empty-largest : largestOf (replicate rowsMax freeRow) ≡ 0
+empty-largest : largestOf (replicate rowsMax freeRow) ≡ 0
 unfolding largestOf maxTo
 empty-largest = refl
 

@@ -9,11 +9,8 @@ use native.Mathlib.Omega.{arith}
 use lib.Dec.{leb}
 use borrow.Author.Tests.{leb-true, le-leb, not-true, not-false}
 use Rattle.plain.specs.Pick.{pick}
+use Rattle.plain.proofs.Picks.{true-false}
 use Rattle.boards.specs.Sound.{both, between, allTo}
-
--- no test both holds and fails
-pub true-false : {b : Bool} → b ≡ true → b ≡ false → ⊥
-true-false p q = let e : _≡_ {A = ℕ} 1 0 = cc in omega arith
 
 -- what does not hold fails
 pub not-held : (b : Bool) → (b ≡ true → ⊥) → b ≡ false
@@ -27,11 +24,6 @@ both-true false b e = absurd (true-false e refl)
 
 pub true-both : {a b : Bool} → a ≡ true → b ≡ true → both a b ≡ true
 true-both p q = rw (p, q)
-
--- what holds of both answers holds of the one that is picked
-pub pick-case : {A : Type 0} (P : A → Type 0) (t : Bool) {a b : A} → (t ≡ true → P a) → (t ≡ false → P b) → P (pick t a b)
-pick-case P true f g = f refl
-pick-case P false f g = g refl
 
 -- what a chain of tests picks, as code that returns at one of them has it
 pub pick-yes : {A : Type 0} {t : Bool} {x a : A} (b : A) → t ≡ true → x ≡ a → x ≡ pick t a b

@@ -6,6 +6,7 @@ use lib.ListN.{set}
 use Rattle.plain.specs.Pick.{pick, one}
 use Rattle.refusals.specs.Numbers.{idStands, boardFull, notStanding, badCores, unsoundBoard}
 use Rattle.refusals.specs.declared.Answer.{Answer}
+use Rattle.refusals.specs.Refusal.{refusal}
 use Rattle.refusals.specs.Answer.{accepted, refused}
 use Rattle.boards.specs.declared.Row.{Row}
 use Rattle.boards.specs.declared.Change.{Change}
@@ -25,24 +26,24 @@ changed rows c = set rows (c .at) (c .row)
 -- a task's row to the lowest free row: 12 where the id stands already, 13 where all rows are taken
 unfoldable pub placed : List Row → Row → Change
 placed rows row =
-    pick (ltb (placeOf (row .id) rows) rowsMax) (unchanged rows (refused idStands 0))
+    pick (ltb (placeOf (row .id) rows) rowsMax) (unchanged rows (refused (refusal idStands 0)))
     (pick (ltb (freeAt rows) rowsMax) (record { at = freeAt rows; row = row; answer = accepted (freeAt rows) })
-    (unchanged rows (refused boardFull 0)))
+    (unchanged rows (refused (refusal boardFull 0))))
 
 -- a withdrawal: 17, then 14 ("0 never stands"); else the row becomes free
 unfoldable pub withdrawn : List Row → ℕ → Change
 withdrawn rows id =
     pick (isSound rows)
-    (pick (eqb id 0) (unchanged rows (refused notStanding 0))
+    (pick (eqb id 0) (unchanged rows (refused (refusal notStanding 0)))
     (pick (ltb (placeOf id rows) rowsMax) (record { at = placeOf id rows; row = freeRow; answer = accepted (placeOf id rows) })
-    (unchanged rows (refused notStanding 0))))
-    (unchanged rows (refused unsoundBoard 0))
+    (unchanged rows (refused (refusal notStanding 0)))))
+    (unchanged rows (refused (refusal unsoundBoard 0)))
 
 -- asking: 17, then 15; else yes or no
 unfoldable pub asked : List Row → ℕ → Answer
 asked rows cores =
     pick (isSound rows)
-    (pick (eqb cores 0) (refused badCores 0)
-    (pick (ltb coresMax cores) (refused badCores 0)
+    (pick (eqb cores 0) (refused (refusal badCores 0))
+    (pick (ltb coresMax cores) (refused (refusal badCores 0))
     (accepted (one (verdict rows cores)))))
-    (refused unsoundBoard 0)
+    (refused (refusal unsoundBoard 0))

@@ -1,4 +1,4 @@
--- "all nodes of all standing tasks", as one list.
+-- Of "all nodes of all standing tasks" one task's, as a list.
 use mathlib.Core.List.{List, [], _∷_, _++_}
 use Prim.Native.Nat.{ℕ, zero, suc}
 use Rattle.boards.specs.Fractions.{Fraction}
@@ -7,8 +7,3 @@ use Rattle.boards.specs.Fractions.{Fraction}
 unfoldable pub listed : ℕ → (ℕ → Fraction) → List Fraction
 listed zero x = []
 listed (suc n) x = listed n x ++ (x n ∷ [])
-
--- of each of the first d rows its nodes: row k has n k of them, x k 0, x k 1, ..
-unfoldable pub allOf : ℕ → (ℕ → ℕ) → (ℕ → ℕ → Fraction) → List Fraction
-allOf zero n x = []
-allOf (suc d) n x = allOf d n x ++ listed (n d) (x d)

@@ -17,6 +17,6 @@ rowsMax = 16
 abbrev pub rowAt : List Row → ℕ → Row
 rowAt rows k = getD rows k freeRow
 
--- the figures of a task of n nodes with these densities: "the total and the largest of this task's node densities"
-abbrev pub figures : ℕ → ℕ → (ℕ → ℕ) → Row
-figures id n density = record { id = id; nodes = n; sum = sumTo n density; largest = maxTo n density }
+-- the row of a task of n nodes with these densities: "id, node count, density sum and largest density"
+abbrev pub taskRow : (id n : ℕ) → (ℕ → ℕ) → Row
+taskRow id n density = record { id = id; nodes = n; sum = sumTo n density; largest = maxTo n density }

@@ -55,14 +55,10 @@ unfoldable pub allTo : ℕ → (ℕ → Bool) → Bool
 allTo zero f = true
 allTo (suc n) f = both (allTo n f) (f n)
 
--- entry k is no earlier entry's; 0 doesn't count
-abbrev pub isNewAmong : (ℕ → ℕ) → ℕ → Bool
-isNewAmong ids k = pick (eqb (ids k) 0) true (allTo k (λ i. pick (eqb (ids i) (ids k)) false true))
-
--- "no id twice": row k has no id that an earlier row has
-unfoldable pub isNew : List Row → ℕ → Bool
-isNew rows k = isNewAmong (λ i. rowAt rows i .id) k
+-- "no id twice": id k is no earlier one; a free row's 0 doesn't count
+unfoldable pub isNew : (ids : ℕ → ℕ) → ℕ → Bool
+isNew ids k = pick (eqb (ids k) 0) true (allTo k (λ i. pick (eqb (ids i) (ids k)) false true))
 
 -- the whole test
 unfoldable pub isSound : List Row → Bool
-isSound rows = both (eqb (length rows) rowsMax) (allTo rowsMax (λ k. both (isSoundRow (rowAt rows k)) (isNew rows k)))
+isSound rows = both (eqb (length rows) rowsMax) (allTo rowsMax (λ k. both (isSoundRow (rowAt rows k)) (isNew (λ i. rowAt rows i .id) k)))

@@ -10,7 +10,6 @@ use Rattle.plain.specs.Sums.{maxTo}
 use Rattle.plain.proofs.Sums.{sumTo-le, maxTo-le, le-maxTo}
 use Rattle.tables.specs.declared.TaskTable.{TaskTable}
 use Rattle.tables.specs.Limits.{countMax}
-use Rattle.plans.proofs.Kept.{kept}
 use Rattle.boards.specs.declared.Row.{Row}
 use Rattle.boards.specs.Row.{freeRow, rowsMax, rowAt}
 use Rattle.boards.specs.Find.{placeOf}
@@ -19,10 +18,12 @@ use Rattle.boards.proofs.Fractions.{Rounded, yes-exact, exact-yes}
 use Rattle.boards.proofs.Keeping.{one-row}
 use Rattle.admissions.specs.Admission.{rowOf}
 use Rattle.claims.specs.Calls.{State}
-use Rattle.claims.specs.Day.{Among, RowIs, OneRow, allNodes, Holds, Day}
-use Rattle.claims.proofs.Verdict.{rounded-tables, length-nodes, yes-fits, fits-yes}
+use Rattle.claims.specs.Day.{Among, RowIs, OneRow, allNodes, DayHolds, Day}
+use Rattle.claims.proofs.Plan.{good-plan}
+use Rattle.claims.proofs.Ask.{yes-fits, fits-yes}
+use Rattle.claims.proofs.Verdict.{rounded-tables, length-nodes}
 use Rattle.claims.proofs.Standing.{sumsOf, maxOf, le-maxOf, maxOf-le}
-use Rattle.claims.proofs.Pairing.{figure, Paired, paired-start, paired-run, id-some}
+use Rattle.claims.proofs.Pairing.{figure, Paired, paired-empty, paired-calls, id-some}
 
 -- what the pairing says
 module _ {s : State} (p : Paired s) where
@@ -71,11 +72,10 @@ module _ {s : State} (p : Paired s) where
       omega arith
 
   -- all sentences
-  holds : Holds (s .rows) (s .standing) (s .admitted)
+  holds : DayHolds (s .rows) (s .standing) (s .admitted)
   holds = record {
     sound = p .sound;
-    plans-accepted = p .admitted;
-    plans-kept = λ t m. kept (p .admitted t m);
+    plans-good = λ t m. good-plan (p .admitted t m);
     one-row = one;
     others-free = p .table;
     no-id-twice = p .apart;
@@ -85,4 +85,4 @@ module _ {s : State} (p : Paired s) where
 
 -- after every list of calls
 pub day : Day
-day calls = holds (paired-run calls paired-start)
+day calls = holds (paired-calls calls paired-empty)

@@ -1,25 +1,37 @@
--- An accepted table has no loop, so starts and offsets are longest ways, which one equation determines; and its cut is the one cutting of its diagram.
+-- Where no node is reached from itself, starts and offsets are longest ways, which one equation determines; and its cut is the one cutting of its diagram.
+use mathlib.Core.Bool.{Bool, true, false}
 use mathlib.Core.Path.{_≡_, refl, sym, ap, _∙_}
+use mathlib.Core.Logic.{⊎-elim}
 use mathlib.Core.List.{List}
-use Prim.Native.Nat.{ℕ, _+_, _<_}
+use Prim.Native.Nat.{ℕ, _+_, _≤_, _<_}
+use native.Mathlib.Omega.{arith}
 use Rattle.plain.specs.At.{at, tab}
+use Rattle.plain.specs.Sums.{maxTo}
 use Rattle.plain.proofs.Lists.{at-tab}
+use Rattle.plain.proofs.Sums.{le-maxTo, maxTo-is}
 use Rattle.sets.specs.Greatest.{greatest}
 use Rattle.tables.specs.declared.TaskTable.{TaskTable}
+use Rattle.tables.specs.Inner.Plannable.{Plannable}
+use Rattle.tables.proofs.Plannable.{plannable}
+use Rattle.ways.specs.Reaches.{Loops}
+use Rattle.ways.specs.Closure.{loops}
 use Rattle.ways.specs.Ways.{begins}
+use Rattle.ways.proofs.Closure.{loops-yes}
 use Rattle.ways.proofs.Ways.{begin-same, begin-rule, only-begin-rule}
+use Rattle.ways.specs.Totals.{pathOf}
+use Rattle.segments.proofs.Segments.{segments-le}
 use Rattle.segments.proofs.Cutting.{is-cutting, one-cutting}
+use Rattle.plans.specs.Diagram.{finish}
 use Rattle.plans.specs.Shares.{deadline, offset}
-use Rattle.plans.specs.Accepted.{Accepted}
 use Rattle.plans.proofs.Table.{tidy, free, diagram}
 use Rattle.claims.specs.Diagram.{Ruled, TablesTimed}
 
-module _ (t : TaskTable) (ok : Accepted t) where
+module _ (t : TaskTable) (r : Plannable t) (f : loops (t .parents) (t .count) ≡ false) where
   -- longest ways over weights that stand in a list
   ruled : (L : List ℕ) (W : ℕ → ℕ) → ((p : ℕ) → p < t .count → at L p ≡ W p) → Ruled t W (at (begins (t .parents) L (t .count)))
   ruled L W same = record {
-    follows = λ v h. begin-rule (t .parents) L (t .count) (tidy ok) (free ok) v h ∙ in-list (at (begins (t .parents) L (t .count))) v;
-    only = λ A o v h. sym (only-begin-rule (t .parents) L (t .count) (tidy ok) (free ok) A (λ u l. o u l ∙ sym (in-list A u)) v h);
+    follows = λ v h. begin-rule (t .parents) L (t .count) (tidy r) (free r f) v h ∙ in-list (at (begins (t .parents) L (t .count))) v;
+    only = λ A o v h. sym (only-begin-rule (t .parents) L (t .count) (tidy r) (free r f) A (λ u l. o u l ∙ sym (in-list A u)) v h);
   }
     where
       -- the greatest is the same with the weights of the list
@@ -31,12 +43,33 @@ module _ (t : TaskTable) (ok : Accepted t) where
   unfolding offset
   offsets = ruled (tab (t .count) (deadline t)) (deadline t) (at-tab (t .count) (deadline t))
 
+-- of one node or more, some finish is the latest
+some-latest : (n : ℕ) (F : ℕ → ℕ) → 1 ≤ n → (v : ℕ) × (v < n) × (F v ≡ maxTo n F)
+some-latest n F h = ⊎-elim
+    (λ (z : maxTo n F ≡ 0). let l = le-maxTo n F 0 h in (0, h, omega arith))
+    (λ (w : (k : ℕ) × (k < n) × (maxTo n F ≡ F k)). (w .0, w .1, sym (w .2)))
+    (maxTo-is n F)
+
+-- no loop, by the test
+loop-free : {t : TaskTable} → Plannable t → (Loops (t .parents) (t .count) → ⊥) → loops (t .parents) (t .count) ≡ false
+loop-free {t} r n = by (loops (t .parents) (t .count)) refl
+  where
+    by : (b : Bool) → loops (t .parents) (t .count) ≡ b → b ≡ false
+    by true e = absurd (n (loops-yes (t .parents) (t .count) (tidy r) e))
+    by false e = refl
+
 -- the sentences, one by one
 pub tables-timed : TablesTimed
-tables-timed t ok = record {
-  starts = ruled t ok (t .execution) (at (t .execution)) (λ p h. refl);
-  finishes = diagram ok .ends;
-  cuts = is-cutting (diagram ok);
-  only-cuts = λ s c k. one-cutting (diagram ok) k;
-  offsets = offsets t ok;
-}
+unfolding pathOf
+tables-timed t range n =
+    let r = plannable range in
+    let f = loop-free r n in
+    record {
+      starts = ruled t r f (t .execution) (at (t .execution)) (λ p h. refl);
+      finishes = diagram r f .ends;
+      path-latest = record { reached = some-latest (t .count) (finish t) (range .count-low); most = le-maxTo (t .count) (finish t) };
+      cuts = is-cutting (diagram r f);
+      only-cuts = λ s c k. one-cutting (diagram r f) k;
+      few-segments = segments-le (t .count) (finish t);
+      offsets = offsets t r f;
+    }

@@ -1,13 +1,13 @@
-mod Unread
-mod Planning
-mod Entering
-mod Accepted
-pub mod Untouched
-pub mod Rules
-pub mod Written
-pub mod OneAnswer
+mod Rule
+mod Promise
+pub mod Record
+pub mod Plan
+mod Board
+pub mod Admit
+pub mod Withdraw
+pub mod Ask
+pub mod Print
 pub mod Diagram
-pub mod Kept
 mod Standing
 mod Pairing
 mod Verdict

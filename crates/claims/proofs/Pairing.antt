@@ -9,12 +9,12 @@ use native.Mathlib.Decide.{ℕ-discrete}
 use native.Mathlib.Omega.{arith}
 use lib.Dec.{eqb}
 use lib.ListN.{set, getD-replicate}
-use lib.Seq.{getD-set-same, getD-set-other}
 use borrow.Author.Tests.{eqb-true, eqb-false}
 use Rattle.plain.specs.Pick.{pick}
 use Rattle.plain.specs.Sums.{sumTo}
 use Rattle.tables.specs.declared.TaskTable.{TaskTable}
 use Rattle.plans.specs.Accepted.{Accepted}
+use Rattle.plans.specs.Calls.{taskOf}
 use Rattle.boards.specs.declared.Row.{Row}
 use Rattle.boards.specs.declared.Change.{Change}
 use Rattle.boards.specs.Row.{freeRow, rowsMax, rowAt}
@@ -23,17 +23,16 @@ use Rattle.boards.specs.Find.{placeOf, freeAt}
 use Rattle.boards.specs.Change.{changed, withdrawn}
 use Rattle.boards.proofs.Sound.{empty-sound}
 use Rattle.boards.proofs.Find.{place-before}
-use Rattle.boards.proofs.Keeping.{withdrawn-sound, place-stands, place-free, one-row}
+use Rattle.boards.proofs.Keeping.{withdrawn-refused, withdrawn-sound, place-stands, place-free, one-row, row-written, others-kept}
 use Rattle.admissions.specs.Admission.{Admission, rowOf, admission}
 use Rattle.admissions.proofs.Keeping.{admission-sound}
-use Rattle.planner.specs.Calls.{admitCall, withdrawCall}
-use Rattle.claims.specs.Rules.{tableOf}
-use Rattle.claims.specs.Calls.{Call, State, without, start, next, run}
+use Rattle.planner.specs.Calls.{Lent, admitCall, withdrawCall}
+use Rattle.claims.specs.Calls.{Call, State, without, emptyDay, afterCall, afterCalls}
 use Rattle.claims.specs.Calls.Call.{admit, withdraw, ask}
 use Rattle.claims.specs.Day.{Among, RowIs, NoIdTwice}
 use Rattle.claims.specs.Day.NoIdTwice.{none, more}
-use Rattle.claims.proofs.Accepted.{admit-accepted, Withdrew, withdraw-accepted}
-use Rattle.claims.proofs.Untouched.{admit-untouched, withdraw-untouched}
+use Rattle.claims.proofs.Admit.{admit-accepted, admit-untouched}
+use Rattle.claims.proofs.Withdraw.{Withdrew, withdraw-accepted}
 use Rattle.claims.proofs.Standing.{sumsOf, without-among, among-without, without-apart, sums-without, sum-changed}
 
 -- a figure of each row
@@ -54,9 +53,9 @@ pub record Paired (s : State) : Type 0 where
   pub sums : (f : Row → ℕ) → f freeRow ≡ 0 → sumTo rowsMax (figure f (s .rows)) ≡ sumsOf f (s .standing)
 
 -- the empty board
-pub paired-start : Paired start
+pub paired-empty : Paired emptyDay
 unfolding sumsOf sumTo
-paired-start = record {
+paired-empty = record {
   sound = empty-sound;
   stand = λ t m. absurd (List·Memᴰ·not-nil m);
   admitted = λ t m. absurd (List·Memᴰ·not-nil m);
@@ -68,16 +67,9 @@ paired-start = record {
 
 -- one row written over another of a sound board
 module _ {rows : List Row} (s : Sound rows) (at : ℕ) (h : at < rowsMax) (new : Row) where
-  -- what is read after it, there and elsewhere
-  written-here : rowAt (set rows at new) at ≡ new
-  written-here = getD-set-same rows at new freeRow (rw (s .sixteen) h)
-
-  kept-there : (k : ℕ) → (k ≡ at → ⊥) → rowAt (set rows at new) k ≡ rowAt rows k
-  kept-there k n = getD-set-other rows at k new freeRow n
-
   -- a figure's sum changes by that row
   sum-written : (f : Row → ℕ) → sumTo rowsMax (figure f (set rows at new)) + f (rowAt rows at) ≡ sumTo rowsMax (figure f rows) + f new
-  sum-written f = sum-changed rowsMax (figure f (set rows at new)) (figure f rows) at h (λ k n. ap f (kept-there k n)) ∙ ap (λ (r : Row). sumTo rowsMax (figure f rows) + f r) written-here
+  sum-written f = sum-changed rowsMax (figure f (set rows at new)) (figure f rows) at h (λ k n. ap f (others-kept rows at new k n)) ∙ ap (λ (r : Row). sumTo rowsMax (figure f rows) + f r) (row-written s at h new)
 
 -- the row of an accepted table has an id
 pub id-some : {t : TaskTable} → Accepted t → t .id ≡ 0 → ⊥
@@ -100,15 +92,15 @@ module _ {s : State} (p : Paired s) (t : TaskTable) (ok : Accepted t) (new : row
   -- each table has its row, the new one the row that was free
   joined-row : (u : TaskTable) → Among u (t ∷ s .standing) → (k : ℕ) × (k < rowsMax) × RowIs (joined .rows) u k
   joined-row u m = ⊎-elim
-      (λ (e : u ≡ t). rw e (place, free, written-here (p .sound) place free (rowOf t)))
-      (λ (n : Among u (s .standing)). let w = p .row u n in (w .0, w .1, kept-there (p .sound) place free (rowOf t) (w .0) (elsewhere u (p .stand u n) (w .0) (w .2)) ∙ w .2))
+      (λ (e : u ≡ t). rw e (place, free, row-written (p .sound) place free (rowOf t)))
+      (λ (n : Among u (s .standing)). let w = p .row u n in (w .0, w .1, others-kept (s .rows) place (rowOf t) (w .0) (elsewhere u (p .stand u n) (w .0) (w .2)) ∙ w .2))
       (List·Memᴰ·cases-cons m)
 
   -- each row its table
   joined-table : (k : ℕ) → k < rowsMax → (rowAt (joined .rows) k ≡ freeRow) ⊎ ((u : TaskTable) × Among u (t ∷ s .standing) × RowIs (joined .rows) u k)
   joined-table k h = elim (ℕ-discrete k place) [
-    | yes e ↦ inr (t, List·Memᴰ·head refl, rw e (written-here (p .sound) place free (rowOf t)))
-    | no n ↦ (let same = kept-there (p .sound) place free (rowOf t) k n in
+    | yes e ↦ inr (t, List·Memᴰ·head refl, rw e (row-written (p .sound) place free (rowOf t)))
+    | no n ↦ (let same = others-kept (s .rows) place (rowOf t) k n in
         ⊎-elim (λ (z : rowAt (s .rows) k ≡ freeRow). inl (same ∙ z)) (λ (w : (u : TaskTable) × Among u (s .standing) × RowIs (s .rows) u k). inr (w .0, List·Memᴰ·tail (w .1), same ∙ w .2)) (p .table k h))
   ]
 
@@ -159,13 +151,13 @@ module _ {s : State} (p : Paired s) (id : ℕ) (w : Withdrew (s .rows) id (withd
   left-row u m =
       let a = without-among id (s .standing) m in
       let r = p .row u (a .0) in
-      (r .0, r .1, kept-there (p .sound) freed (w .stood) freeRow (r .0) (not-freed u (a .1) (r .0) (r .2)) ∙ r .2)
+      (r .0, r .1, others-kept (s .rows) freed freeRow (r .0) (not-freed u (a .1) (r .0) (r .2)) ∙ r .2)
 
   -- each row its table, but for the one freed
   left-table : (k : ℕ) → k < rowsMax → (rowAt (left .rows) k ≡ freeRow) ⊎ ((u : TaskTable) × Among u (without id (s .standing)) × RowIs (left .rows) u k)
   left-table k h = elim (ℕ-discrete k freed) [
-    | yes e ↦ inl (rw e (written-here (p .sound) freed (w .stood) freeRow))
-    | no n ↦ (let same = kept-there (p .sound) freed (w .stood) freeRow k n in
+    | yes e ↦ inl (rw e (row-written (p .sound) freed (w .stood) freeRow))
+    | no n ↦ (let same = others-kept (s .rows) freed freeRow k n in
         ⊎-elim (λ (z : rowAt (s .rows) k ≡ freeRow). inl (same ∙ z))
         (λ (g : (u : TaskTable) × Among u (s .standing) × RowIs (s .rows) u k).
         inr (g .0, among-without id (s .standing) (g .1) (λ e. n (one-row (p .sound) id (w .some) k h (ap (λ (x : Row). x .id) (g .2) ∙ e))), same ∙ g .2)) (p .table k h))
@@ -189,30 +181,30 @@ module _ {s : State} (p : Paired s) (id : ℕ) (w : Withdrew (s .rows) id (withd
   }
 
 -- every call keeps the pairing
-pub paired-next : (call : Call) {s : State} → Paired s → Paired (next call s)
-unfolding next
-paired-next (admit bytes words) {s} p = go (eqb (admission bytes words (s .rows) .change .answer .refusal) 0) refl
+pub paired-call : (call : Call) {s : State} → Paired s → Paired (afterCall call s)
+unfolding afterCall
+paired-call (admit bytes words) {s} p = go (eqb (admission bytes words (s .rows) .change .answer .refusal) 0) refl
   where
     go : (b : Bool) → eqb (admission bytes words (s .rows) .change .answer .refusal) 0 ≡ b
-        → Paired (record { rows = admitCall bytes words (s .rows) .rows; standing = pick b (tableOf bytes ∷ s .standing) (s .standing); admitted = pick b (tableOf bytes ∷ s .admitted) (s .admitted) })
+        → Paired (record { rows = admitCall bytes words (s .rows) .lent .rows; standing = pick b (taskOf bytes ∷ s .standing) (s .standing); admitted = pick b (taskOf bytes ∷ s .admitted) (s .admitted) })
     go true e =
         let a = admit-accepted bytes words (s .rows) (eqb-true _ 0 e) in
         let written = ap (λ (x : Admission). changed (s .rows) (x .change)) (a .is) in
         let fine = admission-sound bytes words (s .rows) (p .sound) in
-        rw written (paired-joined p (tableOf bytes) (a .table) (a .new) (a .free) (rw (a .is) at fine))
-    go false e = rw (admit-untouched bytes words (s .rows) (eqb-false _ 0 e) .1) p
-paired-next (withdraw id) {s} p = go (eqb (withdrawn (s .rows) id .answer .refusal) 0) refl
+        rw written (paired-joined p (taskOf bytes) (a .table) (a .new) (a .free) (rw (a .is) at fine))
+    go false e = rw (ap (λ (l : Lent). l .rows) (admit-untouched bytes words (s .rows) (eqb-false _ 0 e))) p
+paired-call (withdraw id) {s} p = go (eqb (withdrawn (s .rows) id .answer .refusal) 0) refl
   where
     go : (b : Bool) → eqb (withdrawn (s .rows) id .answer .refusal) 0 ≡ b
-        → Paired (record { rows = withdrawCall (s .rows) id .rows; standing = pick b (without id (s .standing)) (s .standing); admitted = s .admitted })
+        → Paired (record { rows = withdrawCall (s .rows) id .lent; standing = pick b (without id (s .standing)) (s .standing); admitted = s .admitted })
     go true e =
         let w = withdraw-accepted (s .rows) id (eqb-true _ 0 e) in
         rw (ap (λ (c : Change). changed (s .rows) c) (w .is)) (paired-left p id w)
-    go false e = rw (withdraw-untouched (s .rows) id (eqb-false _ 0 e)) p
-paired-next (ask cores) p = p
+    go false e = rw (withdrawn-refused (s .rows) id (eqb-false _ 0 e)) p
+paired-call (ask cores) p = p
 
 -- so does a day
-pub paired-run : (calls : List Call) {s : State} → Paired s → Paired (run calls s)
-unfolding run
-paired-run [] p = p
-paired-run (call ∷ calls) p = paired-run calls (paired-next call p)
+pub paired-calls : (calls : List Call) {s : State} → Paired s → Paired (afterCalls calls s)
+unfolding afterCalls
+paired-calls [] p = p
+paired-calls (call ∷ calls) p = paired-calls calls (paired-call call p)

@@ -11,7 +11,7 @@ use Rattle.plain.specs.Sums.{sumTo}
 use Rattle.plain.proofs.Sums.{sum-same}
 use Rattle.tables.specs.declared.TaskTable.{TaskTable}
 use Rattle.boards.specs.declared.Row.{Row}
-use Rattle.boards.proofs.Tests.{pick-case}
+use Rattle.plain.proofs.Picks.{pick-case}
 use Rattle.admissions.specs.Admission.{rowOf}
 use Rattle.claims.specs.Calls.{without}
 use Rattle.claims.specs.Day.{Among, NoIdTwice}

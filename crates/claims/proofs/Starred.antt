@@ -12,8 +12,8 @@ use Rattle.records.specs.Step.{andThen}
 use Rattle.records.specs.Ranged.{whole, ranged}
 use Rattle.records.specs.Parents.{parents, parentSet}
 use Rattle.records.specs.Nodes.{nothingFollows, nodes}
-use Rattle.records.specs.Reading.{fromPeriod, readingOf}
-use Rattle.ways.specs.Closure.{union, stage, rows, reach, some, loops}
+use Rattle.records.specs.Reading.{readingOf}
+use Rattle.ways.specs.Closure.{union, stage, stages, reach, some, loops}
 use Rattle.ways.specs.Ways.{endsAfter, ends, begins}
 use Rattle.ways.specs.Totals.{workOf, pathOf}
 use Rattle.segments.specs.Cut.{nextTo, next, cut, segments, lengthOf}
@@ -25,19 +25,22 @@ use Rattle.shares.specs.Density.{millionths}
 use Rattle.shares.specs.Triples.{triples}
 use Rattle.plans.specs.Shares.{numeratorOf, deadline, offset, density}
 use Rattle.plans.specs.Words.{frontWords, nodeWords}
-use Rattle.plans.specs.Calls.{onTable, onReading, onTask, planCall}
+use Rattle.plans.specs.Calls.{onTable, onTask, planCall}
 use Rattle.boards.specs.Find.{placeOf}
 use Rattle.boards.specs.Sound.{isSoundRow, allTo, isNew, isSound}
 use Rattle.boards.specs.Verdict.{sumOf, largestOf}
 use Rattle.boards.specs.Change.{placed, asked}
 use Rattle.admissions.specs.Admission.{entered, admission}
-use Rattle.claims.specs.Calls.{next as nextState, run}
-use Rattle.claims.specs.Starred.{starred, Starred}
+use Rattle.texts.specs.Decimal.{digits, decimal}
+use Rattle.texts.specs.Lines.{field, line}
+use Rattle.sheets.specs.Lines.{linesTo}
+use Rattle.sheets.specs.Sheet.{sheetText}
+use Rattle.claims.specs.Calls.{afterCall, afterCalls}
+use Rattle.claims.specs.Starred.{kindsTo, starred, Starred}
 use Rattle.claims.specs.Starred.AllCome.{done, _also_}
 
 -- every line of the list
 pub all-come : Starred
-unfolding starred nextState run admission entered placed asked isSound isSoundRow isNew allTo sumOf largestOf placeOf planCall onTask onReading onTable frontWords nodeWords numeratorOf deadline offset density share deal numerator millionths triples isHeavy heavies heavyWork lightLength segments lengthOf cut next nextTo running runningIn runs threads begins ends endsAfter workOf pathOf loops some reach rows stage union readingOf fromPeriod nodes nothingFollows parentSet parents andThen ranged whole number before tab greatest setOf sizeTo bit sumTo maxTo upTo
+unfolding starred kindsTo afterCall afterCalls sheetText linesTo line field decimal digits admission entered placed asked isSound isSoundRow isNew allTo sumOf largestOf placeOf planCall onTask onTable frontWords nodeWords numeratorOf deadline offset density share deal numerator millionths triples isHeavy heavies heavyWork lightLength segments lengthOf cut next nextTo running runningIn runs threads begins ends endsAfter workOf pathOf loops some reach stages stage union readingOf nodes nothingFollows parentSet parents andThen ranged whole number before tab greatest setOf sizeTo bit sumTo maxTo upTo
 all-come =
-    refl also refl also refl also refl also refl also refl also refl also refl also refl also refl also refl also
-    refl also refl also refl also refl also refl also refl also refl also refl also refl also refl also refl also done
+    refl also refl also refl also refl also refl also refl also refl also refl also refl also refl also refl also refl also refl also refl also refl also refl also refl also refl also refl also refl also refl also refl also refl also refl also refl also refl also done

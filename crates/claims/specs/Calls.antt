@@ -8,8 +8,8 @@ use Rattle.refusals.specs.declared.Answer.{Answer}
 use Rattle.tables.specs.declared.TaskTable.{TaskTable}
 use Rattle.boards.specs.declared.Row.{Row}
 use Rattle.boards.specs.Row.{freeRow}
-use Rattle.planner.specs.Calls.{Outcome, admitCall, withdrawCall, askCall}
-use Rattle.claims.specs.Rules.{tableOf}
+use Rattle.plans.specs.Calls.{taskOf}
+use Rattle.planner.specs.Calls.{admitCall, withdrawCall, askCall}
 
 -- a call, with what it is lent beside the board
 pub data Call : Type 0 where
@@ -17,11 +17,17 @@ pub data Call : Type 0 where
   withdraw : (id : ℕ) → Call
   ask : (cores : ℕ) → Call
 
--- what a call answers and leaves, by its own definition; any words may be lent
-abbrev pub step : Call → List Row → Outcome
-step (admit bytes words) rows = admitCall bytes words rows
-step (withdraw id) rows = withdrawCall rows id
-step (ask cores) rows = askCall rows cores
+-- what a call answers, by its own definition; any words may be lent
+abbrev pub answerTo : Call → List Row → Answer
+answerTo (admit bytes words) rows = admitCall bytes words rows .answer
+answerTo (withdraw id) rows = withdrawCall rows id .answer
+answerTo (ask cores) rows = askCall rows cores .answer
+
+-- the rows that it leaves
+abbrev pub rowsAfter : Call → List Row → List Row
+rowsAfter (admit bytes words) rows = admitCall bytes words rows .lent .rows
+rowsAfter (withdraw id) rows = withdrawCall rows id .lent
+rowsAfter (ask cores) rows = askCall rows cores .lent
 
 -- the tables without those that have this id
 unfoldable pub without : ℕ → List TaskTable → List TaskTable
@@ -34,13 +40,13 @@ ifAccepted answer after before = pick (eqb (answer .refusal) 0) after before
 
 -- the tables standing after a call: an accepted admission adds its record's table, an accepted withdrawal takes off the one with its id
 abbrev pub nextStanding : Call → Answer → List TaskTable → List TaskTable
-nextStanding (admit bytes words) answer ts = ifAccepted answer (tableOf bytes ∷ ts) ts
+nextStanding (admit bytes words) answer ts = ifAccepted answer (taskOf bytes ∷ ts) ts
 nextStanding (withdraw id) answer ts = ifAccepted answer (without id ts) ts
 nextStanding (ask cores) answer ts = ts
 
 -- the tables ever admitted, after a call
 abbrev pub nextAdmitted : Call → Answer → List TaskTable → List TaskTable
-nextAdmitted (admit bytes words) answer ts = ifAccepted answer (tableOf bytes ∷ ts) ts
+nextAdmitted (admit bytes words) answer ts = ifAccepted answer (taskOf bytes ∷ ts) ts
 nextAdmitted (withdraw id) answer ts = ts
 nextAdmitted (ask cores) answer ts = ts
 
@@ -51,28 +57,28 @@ pub record State : Type 0 where
   pub admitted : List TaskTable
 
 -- the empty board: sixteen free rows, no table
-abbrev pub start : State
-start = record { rows = replicate 16 freeRow; standing = []; admitted = [] }
+abbrev pub emptyDay : State
+emptyDay = record { rows = replicate 16 freeRow; standing = []; admitted = [] }
 
 -- after one call, by its own answer
-unfoldable pub next : Call → State → State
-next call s =
-    let o : Outcome = step call (s .rows) in
-    record { rows = o .rows; standing = nextStanding call (o .answer) (s .standing); admitted = nextAdmitted call (o .answer) (s .admitted) }
+unfoldable pub afterCall : Call → State → State
+afterCall call s =
+    let answer : Answer = answerTo call (s .rows) in
+    record { rows = rowsAfter call (s .rows); standing = nextStanding call answer (s .standing); admitted = nextAdmitted call answer (s .admitted) }
 
 -- after a list of calls, the first one first, each on the board that the last one left
-unfoldable pub run : List Call → State → State
-run [] s = s
-run (call ∷ calls) s = run calls (next call s)
+unfoldable pub afterCalls : List Call → State → State
+afterCalls [] s = s
+afterCalls (call ∷ calls) s = afterCalls calls (afterCall call s)
 
 -- the board after a day that began with the empty one
 abbrev pub boardAfter : List Call → List Row
-boardAfter calls = run calls start .rows
+boardAfter calls = afterCalls calls emptyDay .rows
 
 -- the tables that stand then
 abbrev pub standingAfter : List Call → List TaskTable
-standingAfter calls = run calls start .standing
+standingAfter calls = afterCalls calls emptyDay .standing
 
 -- the tables that were admitted on the way
 abbrev pub admittedAfter : List Call → List TaskTable
-admittedAfter calls = run calls start .admitted
+admittedAfter calls = afterCalls calls emptyDay .admitted

@@ -4,20 +4,17 @@ use mathlib.Core.Logic.{_⊎_}
 use mathlib.Core.List.{List, [], _∷_, _++_, List·Memᴰ}
 use Prim.Native.Nat.{ℕ, _+_, _-_, _*_, _≤_, _<_}
 use lib.ListN.{length}
-use Rattle.plain.specs.At.{at}
 use Rattle.refusals.specs.Answer.{accepted}
 use Rattle.tables.specs.declared.TaskTable.{TaskTable}
-use Rattle.plans.specs.Shares.{over, deadline}
-use Rattle.plans.specs.Accepted.{Accepted}
-use Rattle.plans.specs.Kept.{Kept}
 use Rattle.boards.specs.declared.Row.{Row}
 use Rattle.boards.specs.Row.{rowAt}
 use Rattle.boards.specs.Sound.{Sound}
-use Rattle.boards.specs.Fractions.{Fraction, exactDensity, whole, AtMost, times, exactLeft, ExactYes}
+use Rattle.boards.specs.Fractions.{Fraction, whole, AtMost, times, exactLeft, ExactYes}
 use Rattle.boards.specs.Nodes.{listed}
 use Rattle.admissions.specs.Admission.{rowOf}
 use Rattle.planner.specs.Calls.{askCall}
-use Rattle.claims.specs.Rules.{IsFree}
+use Rattle.claims.specs.Plan.{exactOf, GoodPlan}
+use Rattle.claims.specs.Board.{IsFree}
 use Rattle.claims.specs.Calls.{Call, boardAfter, standingAfter, admittedAfter}
 
 -- t is one of the tables
@@ -40,10 +37,6 @@ pub data NoIdTwice : List TaskTable → Type 0 where
   none : NoIdTwice []
   more : {t : TaskTable} {ts : List TaskTable} → ((u : TaskTable) → Among u ts → u .id ≡ t .id → ⊥) → NoIdTwice ts → NoIdTwice (t ∷ ts)
 
--- node v's density, unrounded: "execution × Q over numerator"
-abbrev pub exactOf : TaskTable → ℕ → Fraction
-exactOf t v = exactDensity (at (t .execution) v) (over t) (deadline t v)
-
 -- the unrounded densities of "all nodes of all standing tasks"
 unfoldable pub allNodes : List TaskTable → List Fraction
 allNodes [] = []
@@ -58,13 +51,11 @@ abbrev pub Roomy : ℕ → List Fraction → Type 0
 Roomy m xs = AtMost (times 1000000 (exactLeft m xs)) (whole (m * 1000000 - (length xs + m - 1)))
 
 -- the sentences of demand 3 about a board, the tables that stand on it and all tables that were admitted on the way
-pub record Holds (rows : List Row) (standing admitted : List TaskTable) : Type 0 where
+pub record DayHolds (rows : List Row) (standing admitted : List TaskTable) : Type 0 where
   -- the board is sound
   pub sound : Sound rows
-  -- every table that was admitted is in range, has no loop, and a path within its period
-  pub plans-accepted : (t : TaskTable) → Among t admitted → Accepted t
   -- every plan that was accepted keeps what demand 3 says of plans
-  pub plans-kept : (t : TaskTable) → Among t admitted → Kept t
+  pub plans-good : (t : TaskTable) → Among t admitted → GoodPlan t
   -- each standing task has exactly one row, with its plan's figures
   pub one-row : (t : TaskTable) → Among t standing → OneRow rows t
   -- every other row is free
@@ -78,4 +69,4 @@ pub record Holds (rows : List Row) (standing admitted : List TaskTable) : Type 0
 
 -- they hold after every list of calls
 abbrev pub Day : Type 0
-Day = (calls : List Call) → Holds (boardAfter calls) (standingAfter calls) (admittedAfter calls)
+Day = (calls : List Call) → DayHolds (boardAfter calls) (standingAfter calls) (admittedAfter calls)

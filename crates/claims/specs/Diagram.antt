@@ -1,15 +1,16 @@
--- "Timing diagram and segments", of every accepted table: its starts, cuts and offsets are what document 01's sentences say, and nothing else
--- is; so nobody has to trust the rounds and steps of their definitions.
+-- "Timing diagram and segments", of every table without a loop: its starts, path, cuts and offsets are what document 01's sentences say, and
+-- nothing else is; so nobody has to trust the rounds and steps of their definitions.
 use mathlib.Core.Path.{_≡_}
 use Prim.Native.Nat.{ℕ, _+_, _≤_, _<_}
 use Rattle.plain.specs.At.{at}
 use Rattle.sets.specs.Greatest.{greatest}
 use Rattle.tables.specs.declared.TaskTable.{TaskTable}
+use Rattle.tables.specs.Range.{InRange}
+use Rattle.ways.specs.Reaches.{Loops}
 use Rattle.segments.specs.Cut.{cut}
 use Rattle.segments.specs.Cutting.{Cutting}
-use Rattle.plans.specs.Diagram.{start, finish, segmentCount}
+use Rattle.plans.specs.Diagram.{start, finish, path, segmentCount}
 use Rattle.plans.specs.Shares.{deadline, offset}
-use Rattle.plans.specs.Accepted.{Accepted}
 
 -- each node's B is "0 without parents, else the greatest parent's" B plus W
 abbrev pub Follows : TaskTable → (W B : ℕ → ℕ) → Type 0
@@ -28,18 +29,27 @@ Cuts t s c = Cutting (t .count) (start t) (finish t) s c
 abbrev pub cutOf : TaskTable → ℕ → ℕ
 cutOf t j = cut (t .count) (finish t) j
 
+-- P is the greatest of the finishes F of n nodes
+pub record IsLatest (n : ℕ) (F : ℕ → ℕ) (P : ℕ) : Type 0 where
+  pub reached : (v : ℕ) × (v < n) × (F v ≡ P)
+  pub most : (v : ℕ) → v < n → F v ≤ P
+
 -- the sentences
 pub record Timed (t : TaskTable) : Type 0 where
   -- "A node without parents starts at 0; any other starts at the latest finish of its parents"
   pub starts : Ruled t (at (t .execution)) (start t)
   -- "Finish is start plus execution"
   pub finishes : (v : ℕ) → v < t .count → finish t v ≡ start t v + at (t .execution) v
+  -- "path P the latest finish"
+  pub path-latest : IsLatest (t .count) (finish t) (path t)
   -- "Cut [0, P] at every start and finish"; there is one way to
   pub cuts : Cuts t (segmentCount t) (cutOf t)
   pub only-cuts : (s : ℕ) (c : ℕ → ℕ) → Cuts t s c → (s ≡ segmentCount t) × ((j : ℕ) → j ≤ s → c j ≡ cutOf t j)
+  -- "There are at most n segments"
+  pub few-segments : segmentCount t ≤ t .count
   -- "Its offset is 0 without parents, else the greatest parent's offset plus deadline"
   pub offsets : Ruled t (deadline t) (offset t)
 
--- they hold of every table that planning accepts
+-- they hold of every table in range in which no node is reached from itself, so also of those that 11 refuses
 abbrev pub TablesTimed : Type 0
-TablesTimed = (t : TaskTable) → Accepted t → Timed t
+TablesTimed = (t : TaskTable) → InRange t → (Loops (t .parents) (t .count) → ⊥) → Timed t

@@ -1,21 +1,42 @@
 -- Document 01's "Tables worked by hand", those marked *, as one list under one claim. A further table is a further line.
 use mathlib.Core.Path.{_≡_}
 use mathlib.Core.List.{List, [], _∷_, _++_}
-use Prim.Native.Nat.{ℕ}
+use Prim.Native.Nat.{ℕ, zero, suc}
 use lib.ListN.{length, drop, replicate}
 use Rattle.refusals.specs.declared.Answer.{Answer}
+use Rattle.refusals.specs.Refusal.{refusal}
 use Rattle.refusals.specs.Answer.{accepted, refused}
+use Rattle.plain.specs.Pick.{pick}
+use Rattle.tables.specs.declared.TaskTable.{TaskTable}
+use Rattle.shares.specs.Heavy.{isHeavy}
+use Rattle.plans.specs.Diagram.{work, path, segmentCount, threadsIn}
 use Rattle.plans.specs.Words.{wordsMax}
-use Rattle.plans.specs.Calls.{planCall}
+use Rattle.plans.specs.Calls.{taskOf, planCall}
 use Rattle.boards.specs.declared.Row.{Row}
 use Rattle.boards.specs.Row.{rowAt}
-use Rattle.claims.specs.Calls.{Call, step, boardAfter}
+use Rattle.texts.specs.Text.{bytes as text}
+use Rattle.sheets.specs.Printed.{sheetOf}
+use Rattle.claims.specs.Calls.{Call, answerTo, boardAfter}
 use Rattle.claims.specs.Calls.Call.{admit, ask}
+
+-- "A segment is heavy when .., otherwise light"
+pub data Kind : Type 0 where
+  heavy : Kind
+  light : Kind
+
+-- the kinds of a table's first s segments
+unfoldable pub kindsTo : ℕ → TaskTable → List Kind
+kindsTo zero t = []
+kindsTo (suc j) t = kindsTo j t ++ (pick (isHeavy (t .period) (work t) (path t) (threadsIn t j)) heavy light ∷ [])
 
 -- what is done, and what must come out
 pub data Entry : Type 0 where
   -- the record's plan is these words
   plans : (bytes words : List ℕ) → Entry
+  -- its segments are of these kinds
+  cuts : (bytes : List ℕ) (kinds : List Kind) → Entry
+  -- its sheet is this text
+  prints : (bytes text : List ℕ) → Entry
   -- planning refuses the record
   refuses : (bytes : List ℕ) (number place : ℕ) → Entry
   -- admitted on the empty board, the record's task has this row
@@ -33,10 +54,12 @@ admitting bytes = admit bytes blank
 
 -- it comes out so: a plan's answer is the number of its words, and the words past them are as they were; a refusal writes nothing
 abbrev pub Comes : Entry → Type 0
-Comes (plans bytes words) = planCall bytes blank ≡ record { answer = accepted (length words); words = words ++ drop (length words) blank }
-Comes (refuses bytes number place) = planCall bytes blank ≡ record { answer = refused number place; words = blank }
+Comes (plans bytes words) = planCall bytes blank ≡ record { answer = accepted (length words); lent = words ++ drop (length words) blank }
+Comes (cuts bytes kinds) = kindsTo (segmentCount (taskOf bytes)) (taskOf bytes) ≡ kinds
+Comes (prints bytes text) = sheetOf bytes ≡ text
+Comes (refuses bytes number place) = planCall bytes blank ≡ record { answer = refused (refusal number place); lent = blank }
 Comes (fills bytes row) = rowAt (boardAfter (admitting bytes ∷ [])) 0 ≡ row
-Comes (answers calls cores answer) = step (ask cores) (boardAfter calls) .answer ≡ answer
+Comes (answers calls cores answer) = answerTo (ask cores) (boardAfter calls) ≡ answer
 
 -- one node of 5 in a period of 5: light
 abbrev pub oneNode : List ℕ
@@ -58,6 +81,18 @@ fourNodes = 0x01 ∷ 0x09 ∷ 0x04 ∷ 0x04 ∷ 0x02 ∷ 0x00 ∷ 0x01 ∷ 0x01 
 abbrev pub listing : List ℕ
 listing = 0x01 ∷ 0x03 ∷ 0x06 ∷ 0x03 ∷ 0x03 ∷ 0x00 ∷ 0x01 ∷ 0x00 ∷ 0x01 ∷ 0x01 ∷ 0x01 ∷ []
 
+-- "For the record 01 03 06 03 03 00 01 00 01 01 01:"
+abbrev pub listingText : List ℕ
+listingText =
+    text "task 3 period 6 work 5 path 3 over 5\n"
+    ++ text "seg 0 threads 2 length 1 deadline 12\n"
+    ++ text "seg 1 threads 2 length 1 deadline 12\n"
+    ++ text "seg 2 threads 1 length 1 deadline 6\n"
+    ++ text "node 0 offset 0 deadline 30 density 500000\n"
+    ++ text "node 1 offset 0 deadline 12 density 416667\n"
+    ++ text "node 2 offset 12 deadline 12 density 416667\n"
+    ++ text "sum 1333334 max 500000\n"
+
 -- a node that is its own parent
 abbrev pub ownParent : List ℕ
 ownParent = 0x01 ∷ 0x05 ∷ 0x09 ∷ 0x01 ∷ 0x01 ∷ 0x01 ∷ 0x00 ∷ []
@@ -70,15 +105,19 @@ eachOther = 0x01 ∷ 0x06 ∷ 0x09 ∷ 0x02 ∷ 0x01 ∷ 0x01 ∷ 0x01 ∷ 0x01 
 unfoldable pub starred : List Entry
 starred =
     plans oneNode (5 ∷ 1 ∷ 1 ∷ 1 ∷ 5 ∷ 25 ∷ 0 ∷ 25 ∷ 1000000 ∷ [])
+    ∷ cuts oneNode (light ∷ [])
     ∷ fills oneNode (record { id = 7; nodes = 1; sum = 1000000; largest = 1000000 })
     ∷ answers (admitting oneNode ∷ []) 1 (accepted 1)
     ∷ refuses shortPeriod 11 0
     ∷ plans chain (3 ∷ 3 ∷ 3 ∷ 1 ∷ 1 ∷ 3 ∷ 1 ∷ 1 ∷ 3 ∷ 1 ∷ 1 ∷ 3 ∷ 0 ∷ 3 ∷ 1000000 ∷ 3 ∷ 3 ∷ 1000000 ∷ 6 ∷ 3 ∷ 1000000 ∷ [])
+    ∷ cuts chain (light ∷ light ∷ light ∷ [])
     ∷ fills chain (record { id = 8; nodes = 3; sum = 3000000; largest = 1000000 })
     ∷ answers (admitting chain ∷ []) 1 (accepted 0)
     ∷ answers (admitting chain ∷ []) 3 (accepted 0)
     ∷ plans fourNodes (6 ∷ 2 ∷ 4 ∷ 1 ∷ 2 ∷ 6 ∷ 3 ∷ 1 ∷ 18 ∷ 0 ∷ 6 ∷ 2000000 ∷ 6 ∷ 18 ∷ 333334 ∷ 6 ∷ 18 ∷ 333334 ∷ 6 ∷ 18 ∷ 333334 ∷ [])
+    ∷ cuts fourNodes (light ∷ heavy ∷ [])
     ∷ plans listing (5 ∷ 3 ∷ 3 ∷ 2 ∷ 1 ∷ 12 ∷ 2 ∷ 1 ∷ 12 ∷ 1 ∷ 1 ∷ 6 ∷ 0 ∷ 30 ∷ 500000 ∷ 0 ∷ 12 ∷ 416667 ∷ 12 ∷ 12 ∷ 416667 ∷ [])
+    ∷ prints listing listingText
     ∷ fills listing (record { id = 3; nodes = 3; sum = 1333334; largest = 500000 })
     ∷ answers (admitting listing ∷ []) 2 (accepted 1)
     ∷ answers (admitting listing ∷ []) 1 (accepted 0)
@@ -89,8 +128,8 @@ starred =
     ∷ refuses (0x01 ∷ 0x07 ∷ 0x80 ∷ 0x80 ∷ 0x80 ∷ 0x08 ∷ []) 5 2
     ∷ answers [] 1 (accepted 1)
     ∷ answers [] 64 (accepted 1)
-    ∷ answers [] 0 (refused 15 0)
-    ∷ answers [] 65 (refused 15 0)
+    ∷ answers [] 0 (refused (refusal 15 0))
+    ∷ answers [] 65 (refused (refusal 15 0))
     ∷ []
 
 infixr 40 _also_

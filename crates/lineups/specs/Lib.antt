@@ -1,2 +1,1 @@
-pub mod LinedUp
-pub mod Placing
+pub mod Inner

@@ -5,8 +5,7 @@ use mathlib.Core.Logic.{⊎-elim}
 use mathlib.Core.Bool.{Bool, true, false}
 use mathlib.Core.List.{List, [], _∷_}
 use native.Mathlib.Omega.{arith}
-use lib.ListN.{length, take, drop, length-drop}
-use lib.Seq.{take-all}
+use lib.ListN.{length, drop}
 use lib.Dec.{ltb}
 use borrow.Author.Tests.{lt-ltb, le-ltb, ltb-false, eq-eqb, ne-eqb}
 use types.Run.{OneOf}
@@ -22,15 +21,11 @@ use Rattle.numbers.specs.Number.{before, number}
 pub clash : {A : Type 0} → _≡_ {A = ℕ} 0 1 → A
 clash z = absurd (omega arith)
 
--- the part of s from a on, as a callee is handed it
-pub part-from : (a : ℕ) (s : List ℕ) → take (length s - a) (drop a s) ≡ drop a s
-part-from a s = take-all (length s - a) (drop a s) (omega (arith, length-drop a s))
-
 -- a number's first byte: none is there, it is the last, it is not
-pub none : (s : List ℕ) → length s ≡ 0 → number 0 s ≡ Ended
+pub none : (more : ℕ) (s : List ℕ) → length s ≡ 0 → number more s ≡ Ended
 unfolding number
-none [] h = refl
-none (b ∷ s) h = absurd (omega arith)
+none more [] h = refl
+none more (b ∷ s) h = absurd (omega arith)
 
 pub last : (more : ℕ) (s : List ℕ) (b : ℕ) → 0 < length s → b ≡ at s 0 → b < 128 → number more s ≡ Value b 1
 unfolding number
@@ -93,7 +88,7 @@ before-cut b TooLong h = refl
 before-cut b (NotShortest v n) h = absurd (⊎-elim (λ e. omega arith) (λ e. omega arith) h)
 
 -- a byte with its top bit set before a number that is not 0; so a number of two bytes, and of three
-longer : (more a x : ℕ) (s : List ℕ) (v n : ℕ) → a ≡ x → 128 ≤ a → number more s ≡ Value v n → 0 < v →
+pub longer : (more a x : ℕ) (s : List ℕ) (v n : ℕ) → a ≡ x → 128 ≤ a → number more s ≡ Value v n → 0 < v →
     number (suc more) (x ∷ s) ≡ Value (a % 128 + 128 * v) (n + 1)
 unfolding number
 longer more a x s v n e l d z = rw (← e, le-ltb a 128 l, d) (before-some a v n (λ q. omega arith))

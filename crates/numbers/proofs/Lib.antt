@@ -1,3 +1,4 @@
 pub mod Cases
 pub mod Bounds
 pub mod Shortest
+pub mod Forms

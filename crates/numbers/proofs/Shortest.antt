@@ -1,76 +1,53 @@
 -- A value has one shortest form: below 128 it is its own sole byte; any other has v % 128 in its first byte, with the top bit set, and the
 -- one form of v / 128 after it.
-use Prim.Native.Nat.{ℕ, zero, suc, _+_, _*_, _%_, _≤_, _<_}
-use mathlib.Core.Path.{_≡_, refl, ap}
+use Prim.Native.Nat.{ℕ, zero, suc, _+_, _*_, _/_, _%_, _^_, _≤_, _<_, suc-le-suc}
+use mathlib.Core.Path.{_≡_, refl, sym, ap, subst, _∙_}
 use mathlib.Core.Bool.{Bool, true, false}
-use mathlib.Core.List.{List, [], _∷_}
+use mathlib.Core.List.{List, [], _∷_, _++_}
+use native.Mathlib.Nat.{le-of-suc-le-suc, pow-succ'}
 use native.Mathlib.Omega.{arith}
-use native.Mathlib.Numerals.{add-one}
-use lib.ListN.{take}
-use lib.Dec.{ltb, eqb}
-use borrow.Author.Tests.{ltb-true, ltb-false, eqb-false}
+use lib.ListN.{length, take}
+use lib.Dec.{ltb}
+use borrow.Author.Tests.{lt-ltb, le-ltb, ltb-true, ltb-false}
 use Rattle.plain.specs.Pick.{pick}
-use Rattle.plain.specs.At.{at}
-use Rattle.numbers.specs.declared.Number.{Number}
-use Rattle.numbers.specs.declared.Number.the-variants.{Value, Ended, TooLong, NotShortest}
-use Rattle.numbers.specs.Number.{before, number}
-use Rattle.numbers.proofs.Cases.{clash}
+use Rattle.numbers.specs.declared.Number.the-variants.{Value}
+use Rattle.numbers.specs.Number.{number}
+use Rattle.numbers.specs.Form.{Form, Whole}
+use Rattle.numbers.specs.Inner.Shortest.{Bytes, shortest}
+use Rattle.numbers.specs.Form.Form.{sole, first}
+use Rattle.numbers.proofs.Forms.{form-some, read-whole}
 
--- s begins with the n groups of v
-data Groups : List ℕ → ℕ → ℕ → Type 0 where
-  sole : {b : ℕ} {s : List ℕ} → b < 128 → Groups (b ∷ s) b 1
-  first : {b : ℕ} {s : List ℕ} {v n : ℕ} → 128 ≤ b → 0 < v → Groups s v n → Groups (b ∷ s) (b % 128 + 128 * v) (suc n)
-
--- a byte before a rest that was read, where the two are a value
-groups-before : (b : ℕ) (s : List ℕ) (r : Number) → 128 ≤ b →
-    ((v n : ℕ) → r ≡ Value v n → Groups s v n) →
-    (v n : ℕ) → before b r ≡ Value v n → Groups (b ∷ s) v n
-unfolding before
-groups-before b s (Value u m) l rest v n e = by (eqb u 0) refl e
+-- what is written is a form
+pub shortest-whole : (more v : ℕ) (s : List ℕ) → v < 128 ^ suc more → Whole more (shortest more v ++ s) v (length (shortest more v))
+unfolding shortest
+shortest-whole zero v s h = (sole h, omega arith)
+shortest-whole (suc more) v s h = by (shortest-whole more (v / 128) s (omega (arith, pow-succ' 128 (suc more)))) (ltb v 128) refl
   where
-    by : (t : Bool) → eqb u 0 ≡ t → pick t (NotShortest (b % 128) (m + 1)) (Value (b % 128 + 128 * u) (m + 1)) ≡ Value v n → Groups (b ∷ s) v n
-    by true q e = clash (cc)
-    by false q e =
-        let x : b % 128 + 128 * u ≡ v = cc in
-        let y : m + 1 ≡ n = cc in
-        rw (← x, ← y, add-one m) (first {v = u} l (omega (arith, eqb-false u 0 q)) (rest u m refl))
-groups-before b s Ended l rest v n e = clash (cc)
-groups-before b s TooLong l rest v n e = clash (cc)
-groups-before b s (NotShortest u m) l rest v n e = clash (cc)
+    by : Whole more (shortest more (v / 128) ++ s) (v / 128) (length (shortest more (v / 128))) → (t : Bool) → ltb v 128 ≡ t →
+        (let w = pick t (v ∷ []) ((128 + v % 128) ∷ shortest more (v / 128)) in Whole (suc more) (w ++ s) v (length w))
+    by ih true e = (sole (ltb-true v 128 e), omega arith)
+    by ih false e =
+        let l = ltb-false v 128 e in
+        let q : (128 + v % 128) % 128 + 128 * (v / 128) ≡ v = omega arith in
+        (subst (λ (u : ℕ). Form ((128 + v % 128) ∷ shortest more (v / 128) ++ s) u (suc (length (shortest more (v / 128))))) q (first (omega arith) (omega arith) (ih .0)), suc-le-suc (ih .1))
 
--- a first byte: the last, or one that stands before others
-groups-byte : (b : ℕ) (s : List ℕ) (r : Number) →
-    (128 ≤ b → (v n : ℕ) → r ≡ Value v n → Groups (b ∷ s) v n) →
-    (v n : ℕ) → pick (ltb b 128) (Value b 1) r ≡ Value v n → Groups (b ∷ s) v n
-groups-byte b s r longer v n e = by (ltb b 128) refl e
-  where
-    by : (t : Bool) → ltb b 128 ≡ t → pick t (Value b 1) r ≡ Value v n → Groups (b ∷ s) v n
-    by true q e = let x : b ≡ v = cc in let y : 1 ≡ n = cc in rw (← x, ← y) (sole (ltb-true b 128 q))
-    by false q e = longer (ltb-false b 128 q) v n e
-
--- a value that was read has its groups there
-groups : (more : ℕ) (s : List ℕ) (v n : ℕ) → number more s ≡ Value v n → Groups s v n
-unfolding number
-groups more [] v n e = clash (cc)
-groups zero (b ∷ s) v n e = groups-byte b s TooLong (λ l v n e. clash (cc)) v n e
-groups (suc more) (b ∷ s) v n e =
-    groups-byte b s (before b (number more s)) (λ l. groups-before b s (number more s) l (groups more s)) v n e
-
--- every element is a byte
-abbrev pub Bytes : List ℕ → Type 0
-Bytes s = (k : ℕ) → at s k < 256
-
--- one value has one list of groups
-same-groups : {s t : List ℕ} {v w n m : ℕ} → Groups s v n → Groups t w m → Bytes s → Bytes t → v ≡ w → (n ≡ m) × (take n s ≡ take m t)
-same-groups (sole h) (sole k) p q e = (refl, rw e)
-same-groups (sole h) (first k u r) p q e = absurd (omega arith)
-same-groups (first h u r) (sole k) p q e = absurd (omega arith)
-same-groups (first {b = b} {s = s} {v = v} h u r) (first {b = c} {s = t} {v = w} k u′ r′) p q e =
-    let x : b ≡ c = omega (arith, p 0, q 0) in
-    let rest = same-groups r r′ (λ i. p (suc i)) (λ i. q (suc i)) (omega arith) in
-    (ap suc (rest .0), rw (x, rest .1))
+-- and a form is what is written
+pub form-shortest : (more : ℕ) {s : List ℕ} {v n : ℕ} → Bytes s → Form s v n → n ≤ suc more →
+    (n ≡ length (shortest more v)) × (take n s ≡ shortest more v)
+unfolding shortest
+form-shortest zero p (sole h) k = (refl, refl)
+form-shortest (suc more) p (sole {b = b} h) k = rw (lt-ltb b 128 h) (refl, refl)
+form-shortest zero p (first l z r) k = absurd (omega (arith, form-some r))
+form-shortest (suc more) p (first {b = b} {v = v} l z r) k =
+    let ih = form-shortest more (λ i. p (suc i)) r (le-of-suc-le-suc k) in
+    let head : 128 + (b % 128 + 128 * v) % 128 ≡ b = omega (arith, p 0) in
+    let tail : (b % 128 + 128 * v) / 128 ≡ v = omega arith in
+    rw (le-ltb (b % 128 + 128 * v) 128 (omega arith), head, tail) (ap suc (ih .0), ap (_∷_ b) (ih .1))
 
 -- a value read in shortest form is the only one with that value
 pub only-form : (more : ℕ) (s t : List ℕ) (v n m : ℕ) → Bytes s → Bytes t →
     number more s ≡ Value v n → number more t ≡ Value v m → (n ≡ m) × (take n s ≡ take m t)
-only-form more s t v n m p q e f = same-groups (groups more s v n e) (groups more t v m f) p q refl
+only-form more s t v n m p q e f =
+    let a = read-whole more s v n e in let b = read-whole more t v m f in
+    let x = form-shortest more p (a .0) (a .1) in let y = form-shortest more q (b .0) (b .1) in
+    (x .0 ∙ sym (y .0), x .1 ∙ sym (y .1))

@@ -1,1 +1,3 @@
 pub mod Number
+pub mod Form
+pub mod Inner

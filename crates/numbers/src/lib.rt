@@ -16,7 +16,7 @@ pub enum Number {
 const RECORD_MORE: u64 = 3;
 
 // A byte as a word.
-pub fn wide(x: u8) -> u64
+fn wide(x: u8) -> u64
     ensures { λ r. ⌜ r ≡ x ⌝ }
 {
     x as u64
@@ -81,18 +81,13 @@ pub fn number_within(rest: &[u8], more: u64) -> Number
     before(wide(rest[0]), number_within(&rest[1..], more - 1))
 }
 
-// A record's number at the front of rest. Nearly all are at most three bytes, and more numbers follow, so that is tried first.
-pub fn read_number(rest: &[u8]) -> Number
+// A record's number of more than one byte. Nearly all of these are two or three, and more numbers follow, so that is tried first.
+fn read_long(rest: &[u8]) -> Number
+    requires { ⌜ number 0 (now rest) ≡ Number.TooLong ⌝ }
     ensures { λ r. ⌜ r ≡ number recordMore (now (rest .entry)) ⌝ }
 {
     if 2 < rest.len() {
         let first = wide(rest[0]);
-        if first < 128 {
-            return Number::Value {
-                value: first,
-                length: 1,
-            };
-        }
         let second = wide(rest[1]);
         if 0 < second && second < 128 {
             return Number::Value {
@@ -109,4 +104,15 @@ pub fn read_number(rest: &[u8]) -> Number
         }
     }
     number_within(rest, RECORD_MORE)
+}
+
+// A record's number at the front of rest. Nearly all are one byte, so that is tried first, in a function that is small enough to be inlined.
+pub fn read_number(rest: &[u8]) -> Number
+    ensures { λ r. ⌜ r ≡ number recordMore (now (rest .entry)) ⌝ }
+{
+    let first = one_byte(rest);
+    let Number::TooLong = first else {
+        return first;
+    };
+    read_long(rest)
 }

@@ -1,2 +1,4 @@
+pub mod Picks
 pub mod Lists
+pub mod Flags
 pub mod Sums

@@ -1,23 +1,13 @@
 -- Sums and greatest values by index: each law follows by adding one term at a time, as the definitions do.
 use mathlib.Core.Path.{_≡_, refl, sym, ap, _∙_}
 use mathlib.Core.Logic.{_⊎_, inl, inr, ⊎-elim}
-use Prim.Native.Nat.{ℕ, zero, suc, _+_, _-_, _*_, _≤_, _<_, zero-le, max}
+use Prim.Native.Nat.{ℕ, zero, suc, _+_, _*_, _≤_, _<_, zero-le, max}
 use native.Mathlib.Numerals.{add-one}
 use native.Mathlib.Nat.{le-of-suc-le-suc, not-suc-le-zero, suc-mul, add-mul, max-le, le-max-left, le-max-right, le-trans, le-refl, eq-or-lt-of-le}
 use native.Mathlib.Decide.{le-ind}
 use native.Mathlib.Omega.{arith}
-use borrow.Author.Tests.{le-leb, lt-leb}
-use Rattle.plain.specs.Pick.{one, upTo}
 use Rattle.plain.specs.Sums.{sumTo, maxTo}
 use Rattle.plain.proofs.Lists.{lt-or-ge}
-
--- a test as omega reads it
-pub upTo-is : (a b : ℕ) → upTo a b ≡ 1 - (a - b)
-unfolding upTo
-upTo-is a b = ⊎-elim
-    (λ (h : b < a). ap one (lt-leb a b h) ∙ omega arith)
-    (λ (h : a ≤ b). ap one (le-leb a b h) ∙ omega arith)
-    (lt-or-ge b a)
 
 -- no term, and one term more as a loop's counter has it
 pub sumTo-none : (f : ℕ → ℕ) → sumTo 0 f ≡ 0

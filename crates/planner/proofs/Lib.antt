@@ -1,7 +1,7 @@
-pub mod Called
-pub mod Elements
-pub mod Locals
+pub mod Admitting
+pub mod Asking
+pub mod Changing
+pub mod Coded
 pub mod NoBoard
 pub mod Rows
 pub mod Values
-pub mod Walk

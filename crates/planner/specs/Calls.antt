@@ -1,30 +1,29 @@
 -- Each public call on a board as one rule, from what it is lent to what it answers and leaves behind. Planning, which takes no board, is `planCall` of plans.
-use mathlib.Core.List.{List, []}
+use mathlib.Core.List.{List}
 use Prim.Native.Nat.{ℕ}
-use Rattle.refusals.specs.declared.Answer.{Answer}
+use Rattle.refusals.specs.After.{After}
 use Rattle.boards.specs.declared.Row.{Row}
 use Rattle.boards.specs.declared.Change.{Change}
 use Rattle.boards.specs.Change.{changed, withdrawn, asked}
 use Rattle.admissions.specs.Admission.{Admission, admission}
 
--- what a call leaves: its answer, the plan's words and the board's rows
-pub record Outcome : Type 0 where
-  pub answer : Answer
+-- what admitting is lent: the plan's words and the board's rows
+pub record Lent : Type 0 where
   pub words : List ℕ
   pub rows : List Row
 
 -- "admitting writes the same plan words and returns the number (0..15) of the row it filled"
-abbrev pub admitCall : List ℕ → List ℕ → List Row → Outcome
+abbrev pub admitCall : List ℕ → List ℕ → List Row → After Lent
 admitCall bytes words rows =
     let a : Admission = admission bytes words rows in
-    record { answer = a .change .answer; words = a .words; rows = changed rows (a .change) }
+    record { answer = a .change .answer; lent = record { words = a .words; rows = changed rows (a .change) } }
 
--- "withdrawing returns the number of the row it freed"; no words are lent
-abbrev pub withdrawCall : List Row → ℕ → Outcome
+-- "withdrawing returns the number of the row it freed"
+abbrev pub withdrawCall : List Row → ℕ → After (List Row)
 withdrawCall rows id =
     let c : Change = withdrawn rows id in
-    record { answer = c .answer; words = []; rows = changed rows c }
+    record { answer = c .answer; lent = changed rows c }
 
 -- "asking returns yes or no and writes nothing"
-abbrev pub askCall : List Row → ℕ → Outcome
-askCall rows cores = record { answer = asked rows cores; words = []; rows = rows }
+abbrev pub askCall : List Row → ℕ → After (List Row)
+askCall rows cores = record { answer = asked rows cores; lent = rows }

@@ -1,19 +1,15 @@
 // The public calls over lent buffers, as C and Rust call them.
 use boards::Board;
 use boards::Change;
+use boards::ROWS;
 use boards::Row;
 use refusals::Answer;
-use refusals::Refusal;
 ghost use mathlib.Core.Path.{_≡_};
 ghost use Prim.Native.Nat.{_<_};
 ghost use lib.ListN.{length};
-ghost use Rattle.plans.specs.Calls.{planCall};
 ghost use Rattle.boards.specs.Row.{rowsMax};
 ghost use Rattle.boards.specs.Change.{changed};
-ghost use Rattle.planner.specs.Calls.{admitCall, withdrawCall, askCall};
-
-// The limit of boards' specs/: the rows of a board.
-const ROWS: usize = 16;
+ghost use Rattle.planner.specs.Allows.{PlanAllows, AdmitAllows, WithdrawAllows, AskAllows};
 
 // The lent rows, by value.
 fn rows_of(board: &[Row]) -> Board
@@ -42,7 +38,7 @@ fn apply(board: &mut [Row], change: Change) -> Answer
 // Plans the task of a record into the words; the value is the number of words.
 #[no_mangle]
 pub extern "C" fn planner_plan(bytes: &[u8], words: &mut [u64]) -> Answer
-    ensures { λ r. ⌜ (r ≡ planCall (now (bytes .entry)) (now (words .entry)) .answer) × (now (words .exit) ≡ planCall (now (bytes .entry)) (now (words .entry)) .words) ⌝ }
+    ensures { λ r. ⌜ PlanAllows (now (bytes .entry)) (now (words .entry)) (record { answer = r; lent = now (words .exit) }) ⌝ }
 {
     plans::plan(bytes, words)
 }
@@ -50,9 +46,7 @@ pub extern "C" fn planner_plan(bytes: &[u8], words: &mut [u64]) -> Answer
 // Reads a record, plans its task into the words and puts it on the board; the value is the row filled.
 #[no_mangle]
 pub extern "C" fn planner_admit(bytes: &[u8], words: &mut [u64], board: &mut [Row]) -> Answer
-    ensures { λ r. ⌜ (r ≡ admitCall (now (bytes .entry)) (now (words .entry)) (now (board .entry)) .answer)
-        × (now (words .exit) ≡ admitCall (now (bytes .entry)) (now (words .entry)) (now (board .entry)) .words)
-        × (now (board .exit) ≡ admitCall (now (bytes .entry)) (now (words .entry)) (now (board .entry)) .rows) ⌝ }
+    ensures { λ r. ⌜ AdmitAllows (now (bytes .entry)) (now (words .entry)) (now (board .entry)) (record { answer = r; lent = record { words = now (words .exit); rows = now (board .exit) } }) ⌝ }
 {
     if board.len() != ROWS {
         return admissions::no_board(words.len());
@@ -64,22 +58,22 @@ pub extern "C" fn planner_admit(bytes: &[u8], words: &mut [u64], board: &mut [Ro
 // Takes the task off the board; the value is the row freed.
 #[no_mangle]
 pub extern "C" fn planner_withdraw(board: &mut [Row], id: u64) -> Answer
-    ensures { λ r. ⌜ (r ≡ withdrawCall (now (board .entry)) id .answer) × (now (board .exit) ≡ withdrawCall (now (board .entry)) id .rows) ⌝ }
+    ensures { λ r. ⌜ WithdrawAllows (now (board .entry)) id (record { answer = r; lent = now (board .exit) }) ⌝ }
 {
     if board.len() != ROWS {
-        return Answer::refused(Refusal::UNSOUND_BOARD, 0);
+        return boards::unsound();
     }
     let change = boards::withdrawn(rows_of(board), id);
     apply(board, change)
 }
 
-// The verdict for a number of cores: the value is 1 for yes and 0 for no.
+// The verdict for a number of cores: the value is 1 for yes and 0 for no. The board is lent to be read, so its rows after the call are those before it.
 #[no_mangle]
 pub extern "C" fn planner_ask(board: &[Row], cores: u64) -> Answer
-    ensures { λ r. ⌜ r ≡ askCall (now (board .entry)) cores .answer ⌝ }
+    ensures { λ r. ⌜ AskAllows (now (board .entry)) cores (record { answer = r; lent = now (board .entry) }) ⌝ }
 {
     if board.len() != ROWS {
-        return Answer::refused(Refusal::UNSOUND_BOARD, 0);
+        return boards::unsound();
     }
     boards::asked(rows_of(board), cores)
 }

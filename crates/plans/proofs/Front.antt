@@ -7,10 +7,10 @@ use native.Mathlib.Omega.{arith}
 use lib.ListN.{length, set, take, drop, length-take, length-drop, length-append}
 use lib.Seq.{ext-getD, getD-drop, drop-at, take-at, drop-drop}
 use Rattle.tables.specs.declared.TaskTable.{TaskTable}
-use Rattle.segments.specs.Words.{CutWords}
+use Rattle.segments.specs.Inner.Words.{CutWords}
 use Rattle.shares.specs.Triples.{triples}
-use Rattle.shares.specs.Written.{Numbered}
-use Rattle.shares.proofs.Edges.{Holds}
+use Rattle.shares.specs.Inner.Written.{Numbered}
+use Rattle.shares.proofs.Edges.{HoldsSegments}
 use Rattle.shares.proofs.Numbering.{numbered-holds, rest-same}
 use Rattle.shares.proofs.Triples.{hold-triples, length-triples}
 use Rattle.plans.specs.Diagram.{start, finish, work, path, segmentCount, threadsIn, lengthIn}
@@ -26,7 +26,7 @@ headed q s n (a ∷ b ∷ c ∷ r) h = refl
 
 module _ (t : TaskTable) {w₀ w₁ w₂ : List ℕ} (cut : CutWords (t .count) (start t) (finish t) (segmentCount t) w₀ w₁) (given : Numbered (dealOf t) (t .period) (work t) (path t) (segmentCount t) w₁ w₂) (room : 3 + 3 * segmentCount t ≤ length w₂) where
   -- the words hold the table's segments
-  holds : Holds w₂ (segmentCount t) (threadsIn t) (lengthIn t) (numeratorOf t)
+  holds : HoldsSegments w₂ (segmentCount t) (threadsIn t) (lengthIn t) (numeratorOf t)
   unfolding numeratorOf
   holds = numbered-holds (threadsIn t) (lengthIn t) (cut .first) (cut .second) given
 

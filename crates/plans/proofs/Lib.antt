@@ -1,9 +1,11 @@
 pub mod Stretched
 pub mod Table
 pub mod Kept
+pub mod Light
 pub mod Tests
+pub mod Cases
 pub mod Front
 pub mod Lined
 pub mod Nodes
 pub mod Read
-mod Worked
+pub mod Figures

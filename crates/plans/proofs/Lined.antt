@@ -8,21 +8,21 @@ use lib.ListN.{length}
 use Rattle.plain.specs.At.{at}
 use Rattle.tables.specs.declared.TaskTable.{TaskTable}
 use Rattle.ways.proofs.Totals.{work-le}
-use Rattle.lineups.specs.LinedUp.{LinedUp}
+use Rattle.lineups.specs.Inner.LinedUp.{LinedUp}
 use Rattle.segments.specs.Cut.{segments}
-use Rattle.segments.specs.Room.{CutIn}
-use Rattle.segments.specs.Words.{CutWords}
+use Rattle.segments.specs.Inner.Room.{CutIn}
+use Rattle.segments.specs.Inner.Words.{CutWords}
 use Rattle.segments.proofs.Segments.{segments-le}
 use Rattle.segments.proofs.Running.{threads-word}
-use Rattle.shares.specs.Asked.{DealIn}
+use Rattle.shares.specs.Inner.Asked.{DealIn}
 use Rattle.shares.specs.Deal.{deal}
-use Rattle.shares.specs.Words.{threadsAt, lengthAt}
-use Rattle.shares.proofs.Deals.{deal-same, cutting-same}
+use Rattle.shares.specs.Inner.Words.{threadsAt, lengthAt}
+use Rattle.shares.proofs.Deals.{deal-same, segmented-same}
 use Rattle.plans.specs.Diagram.{start, finish, work, path, segmentCount, threadsIn, lengthIn}
 use Rattle.plans.specs.Shares.{dealOf}
 use Rattle.plans.specs.Words.{wordsMax}
-use Rattle.plans.specs.Accepted.{Accepted}
-use Rattle.plans.specs.Drawn.{Lined}
+use Rattle.plans.specs.Inner.Planned.{Planned}
+use Rattle.plans.specs.Inner.Drawn.{Lined}
 use Rattle.plans.proofs.Table.{cutting}
 
 module _ {t : TaskTable} {S F A B : List ℕ} (lined : Lined t S F A B) where
@@ -51,7 +51,7 @@ module _ {t : TaskTable} {S F A B : List ℕ} (lined : Lined t S F A B) where
   pub words-so : {s : ℕ} {w₀ w : List ℕ} → CutWords (t .count) (at S) (at F) s w₀ w → CutWords (t .count) (start t) (finish t) s w₀ w
   words-so c = rw (starts-so, finishes-so) at c
 
-module _ {t : TaskTable} (ok : Accepted t) {w₀ w : List ℕ} (c : CutWords (t .count) (start t) (finish t) (segmentCount t) w₀ w) where
+module _ {t : TaskTable} (ok : Planned t) {w₀ w : List ℕ} (c : CutWords (t .count) (start t) (finish t) (segmentCount t) w₀ w) where
   -- the table's own deal
   pub deal-so : deal (t .period) (work t) (path t) (segmentCount t) (threadsAt w) (lengthAt w) ≡ dealOf t
   deal-so = deal-same (t .period) (work t) (path t) (segmentCount t) (threadsAt w) (lengthAt w) (threadsIn t) (lengthIn t) (c .first) (c .second)
@@ -60,8 +60,8 @@ module _ {t : TaskTable} (ok : Accepted t) {w₀ w : List ℕ} (c : CutWords (t 
   pub deal-in : wordsMax ≤ length w → DealIn w (segmentCount t) (t .period) (work t) (path t)
   deal-in l = record {
     room = let a = segments-le (t .count) (finish t) in let b = ok .range .count-high in omega arith;
-    cutting = cutting-same (threadsAt w) (lengthAt w) (λ j h. sym (c .first j h)) (λ j h. sym (c .second j h)) (cutting ok);
+    segmented = segmented-same (threadsAt w) (lengthAt w) (λ j h. sym (c .first j h)) (λ j h. sym (c .second j h)) (cutting ok);
     period = ok .range .period-high;
-    work = work-le (t .execution) (t .count) _ (ok .range .execution-high) (ok .range .count-high);
+    work = work-le (t .execution) (t .count) _ (ok .range .run-high) (ok .range .count-high);
     threads = λ j h. rw (c .first j h) (threads-word (t .count) (start t) (finish t) j);
   }

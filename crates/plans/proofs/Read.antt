@@ -10,17 +10,13 @@ use Rattle.tables.specs.declared.TaskTable.{TaskTable}
 use Rattle.segments.proofs.Segments.{segments-le}
 use Rattle.shares.proofs.Triples.{length-triples, third-of}
 use Rattle.plans.specs.Diagram.{finish, segmentCount}
-use Rattle.plans.specs.Shares.{over, deadline, offset, density}
+use Rattle.plans.specs.Shares.{deadline, offset, density}
 use Rattle.plans.specs.Words.{wordCount, wordsMax, frontWords, nodeWords, written}
-use Rattle.plans.specs.Accepted.{Accepted}
+use Rattle.plans.specs.Inner.Planned.{Planned}
 use Rattle.plans.proofs.Front.{length-front}
 
 module _ (t : TaskTable) (words : List ℕ) where
   -- the head
-  pub at-over : at (written t words) 0 ≡ over t
-  unfolding frontWords
-  at-over = refl
-
   pub at-segments : at (written t words) 1 ≡ segmentCount t
   unfolding frontWords
   at-segments = refl
@@ -55,6 +51,6 @@ module _ (t : TaskTable) (words : List ℕ) where
       ∙ getD-append-add (frontWords t) (nodeWords t) k 0
       ∙ third-of (offset t) (deadline t) (density t) (t .count) v l
 
--- an accepted table's plan has at most as many words as are asked for
-pub words-fit : {t : TaskTable} → Accepted t → wordCount (segmentCount t) (t .count) ≤ wordsMax
+-- a table's plan has at most as many words as are asked for
+pub words-fit : {t : TaskTable} → Planned t → wordCount (segmentCount t) (t .count) ≤ wordsMax
 words-fit {t} ok = let a = segments-le (t .count) (finish t) in let b = ok .range .count-high in omega arith

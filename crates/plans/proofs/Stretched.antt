@@ -11,12 +11,14 @@ use Rattle.plain.specs.At.{at, tab}
 use Rattle.plain.proofs.Lists.{at-tab, lt-or-ge}
 use Rattle.sets.specs.Member.{bit}
 use Rattle.sets.specs.Greatest.{kept, greatest}
-use Rattle.ways.specs.Reaches.{Reaches, Tidy}
+use Rattle.ways.specs.Reaches.{Reaches}
+use Rattle.ways.specs.Inner.Tidy.{Tidy}
 use Rattle.ways.specs.Ways.{begins, ends, endBy}
 use Rattle.ways.proofs.Closure.{rank, rank-falls}
 use Rattle.ways.proofs.Ways.{at-begins, only-rule, ends-begins, begin-is}
-use Rattle.segments.specs.Diagram.{Diagram}
-use Rattle.segments.specs.Share.{share, by}
+use Rattle.segments.specs.Inner.Diagram.{Diagram}
+use Rattle.segments.specs.Share.{share}
+use Rattle.segments.specs.Inner.By.{by}
 use Rattle.segments.proofs.Shares.{by-mono, by-zero, share-by}
 
 -- a monotone g with g 0 = 0 goes through the greatest over a set

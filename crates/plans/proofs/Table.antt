@@ -1,60 +1,76 @@
--- An accepted table has a timing diagram whose cut gives the shares what they ask: the segments' lengths sum to the path, their threads times
--- lengths to the work, none is empty or idle, and there is one, because every node runs for some time.
+-- A table without a loop has a timing diagram. Where its path fits the period, the cut gives the shares what they ask: the segments' lengths sum
+-- to the path, their threads times lengths to the work, none is empty or idle, and there is one, because some node runs.
 use mathlib.Core.Path.{_≡_, refl, sym, _∙_}
+use mathlib.Core.Bool.{false}
 use Prim.Native.Nat.{ℕ, _<_}
 use native.Mathlib.Omega.{arith}
 use Rattle.plain.specs.At.{at}
 use Rattle.tables.specs.declared.TaskTable.{TaskTable}
-use Rattle.ways.specs.Reaches.{Reaches, Tidy}
+use Rattle.tables.specs.Inner.Plannable.{Plannable}
+use Rattle.tables.proofs.Plannable.{plannable}
+use Rattle.ways.specs.Reaches.{Reaches}
+use Rattle.ways.specs.Inner.Tidy.{Tidy}
+use Rattle.ways.specs.Closure.{loops}
 use Rattle.ways.specs.Totals.{workOf, pathOf}
 use Rattle.ways.proofs.Closure.{loops-no}
 use Rattle.ways.proofs.Totals.{path-ge}
 use Rattle.segments.specs.Cut.{latest}
-use Rattle.segments.specs.Diagram.{Diagram}
+use Rattle.segments.specs.Inner.Diagram.{Diagram}
 use Rattle.segments.proofs.Cuts.{cut-none}
 use Rattle.segments.proofs.Segments.{before-segment, lengthOf-pos, lengths-sum}
 use Rattle.segments.proofs.Diagram.{some-thread}
 use Rattle.segments.proofs.Shares.{work-sum}
-use Rattle.shares.specs.Cutting.{Cutting}
+use Rattle.shares.specs.Inner.Segmented.{Segmented}
 use Rattle.plans.specs.Diagram.{start, finish, work, path, segmentCount, threadsIn, lengthIn}
 use Rattle.plans.specs.Accepted.{Accepted}
+use Rattle.plans.specs.Inner.Planned.{Planned}
 use Rattle.plans.proofs.Stretched as stretched
 
-module _ {t : TaskTable} (ok : Accepted t) where
-  -- the parent sets are in range, and no node is reached from itself
+module _ {t : TaskTable} (r : Plannable t) where
+  -- the parent sets are in range
   pub tidy : Tidy (t .parents) (t .count)
-  tidy = record { past = ok .range .parents-past; word = ok .range .parents-below }
+  tidy = record { past = r .parents-past; word = r .parents-below }
 
-  pub free : (v : ℕ) → Reaches (t .parents) v v → ⊥
-  free = loops-no (t .parents) (t .count) tidy (ok .free)
+  -- and where no node is reached from itself, there is a timing diagram
+  module _ (f : loops (t .parents) (t .count) ≡ false) where
+    pub free : (v : ℕ) → Reaches (t .parents) v v → ⊥
+    free = loops-no (t .parents) (t .count) tidy f
 
-  pub diagram : Diagram (t .count) (start t) (finish t) (at (t .execution))
-  diagram = stretched.diagram (t .parents) (t .execution) (t .count) tidy free
+    pub diagram : Diagram (t .count) (start t) (finish t) (at (t .execution))
+    diagram = stretched.diagram (t .parents) (t .execution) (t .count) tidy free
+
+module _ {t : TaskTable} (ok : Planned t) where
+  pub drawn : Diagram (t .count) (start t) (finish t) (at (t .execution))
+  drawn = diagram (ok .range) (ok .free)
 
   -- the path is the latest finish
   pub path-latest : path t ≡ latest (t .count) (finish t)
   unfolding pathOf
   path-latest = refl
 
-  -- the first node finishes after 0, so there is a segment
+  -- a node that runs finishes after 0, so there is a segment
   pub segment-some : 0 < segmentCount t
   segment-some =
-      let r = ok .range in
-      let a = r .execution-low 0 (r .count-low) in
-      let b = diagram .ends 0 (r .count-low) in
-      let c = path-ge (t .parents) (t .execution) (t .count) 0 in
+      let runs = ok .range .some-runs in
+      let a = runs .2 in
+      let b = drawn .ends (runs .0) (runs .1) in
+      let c = path-ge (t .parents) (t .execution) (t .count) (runs .0) in
       let d = cut-none (t .count) (finish t) in
       let e = path-latest in
       before-segment (t .count) (finish t) 0 (omega arith)
 
   -- what the shares ask of the cut
-  pub cutting : Cutting (t .period) (work t) (path t) (segmentCount t) (threadsIn t) (lengthIn t)
+  pub cutting : Segmented (t .period) (work t) (path t) (segmentCount t) (threadsIn t) (lengthIn t)
   unfolding workOf
   cutting = record {
     path = path-latest ∙ sym (lengths-sum (t .count) (finish t));
-    work = sym (work-sum diagram (ok .range .count-high));
-    threads = some-thread diagram (ok .range .count-high);
+    work = sym (work-sum drawn (ok .range .count-high));
+    threads = some-thread drawn (ok .range .count-high);
     lengths = lengthOf-pos (t .count) (finish t);
     within = ok .fits;
     some = segment-some;
   }
+
+-- every accepted table has a plan
+pub plans-accepted : {t : TaskTable} → Accepted t → Planned t
+plans-accepted a = record { range = plannable (a .range); free = a .free; fits = a .fits }

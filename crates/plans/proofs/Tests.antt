@@ -9,31 +9,32 @@ use lib.Dec.{ltb}
 use lib.ListN.{length}
 use Rattle.plain.specs.Pick.{pick}
 use Rattle.refusals.specs.Numbers.{loop, longPath, fewWords}
-use Rattle.tables.specs.declared.TaskTable.{TaskTable}
 use Rattle.refusals.specs.declared.Refusal.{Refusal}
 use Rattle.refusals.specs.declared.Answer.{Answer}
-use Rattle.records.specs.declared.Outcome.{Outcome}
-use Rattle.records.specs.declared.Outcome.the-variants.{Accepted, Refused}
-use Rattle.records.specs.Step.{refusal}
+use Rattle.refusals.specs.declared.Outcome.{Outcome}
+use Rattle.refusals.specs.declared.Outcome.the-variants.{Accepted, Refused}
+use Rattle.refusals.specs.Refusal.{refusal}
+use Rattle.tables.specs.declared.TaskTable.{TaskTable}
 use Rattle.records.specs.Reading.{readingOf}
 use Rattle.ways.specs.Closure.{loops}
 use Rattle.plans.specs.Diagram.{path}
 use Rattle.plans.specs.Words.{wordsMax}
-use Rattle.plans.specs.Calls.{onTable, onReading, onTask, unplanned, planned, plannedUnless, planCall}
-use Rattle.plans.specs.Drawn.{outcomeOf}
+use Rattle.plans.specs.Calls.{onTable, taskOf, onTask, unplanned, planned, planCall}
+use Rattle.plans.specs.Inner.Drawn.{outcomeOf}
+use Rattle.plans.specs.Inner.Table.{unlessLater}
 
 -- an outcome is not a refusal and an acceptance at once
 pub not-both : {o : Outcome} {r : Refusal} → o ≡ Refused r → o ≡ Accepted → ⊥
 not-both p q = let z : _≡_ {A = ℕ} 0 1 = cc in omega arith
 
-module _ {A : Type 0} (refuse : ℕ → ℕ → A) (go : TaskTable → A) (t : TaskTable) where
+module _ {A : Type 0} (refuse : Refusal → A) (go : TaskTable → A) (t : TaskTable) where
   -- 10
-  pub on-loop : loops (t .parents) (t .count) ≡ true → onTable refuse go t ≡ refuse loop 0
+  pub on-loop : loops (t .parents) (t .count) ≡ true → onTable refuse go t ≡ refuse (refusal loop 0)
   unfolding onTable
   on-loop e = rw e
 
   -- 11
-  pub on-long : loops (t .parents) (t .count) ≡ false → t .period < path t → onTable refuse go t ≡ refuse longPath 0
+  pub on-long : loops (t .parents) (t .count) ≡ false → t .period < path t → onTable refuse go t ≡ refuse (refusal longPath 0)
   unfolding onTable
   on-long e h = rw (e, lt-ltb (t .period) (path t) h)
 
@@ -43,11 +44,11 @@ module _ {A : Type 0} (refuse : ℕ → ℕ → A) (go : TaskTable → A) (t : T
   on-fits e h = rw (e, le-ltb (t .period) (path t) h)
 
   -- the same by the outcome that a diagram tells
-  pub table-refused : {r : Refusal} → outcomeOf t ≡ Refused r → onTable refuse go t ≡ refuse (r .number) (r .place)
+  pub table-refused : {r : Refusal} → outcomeOf t ≡ Refused r → onTable refuse go t ≡ refuse r
   unfolding onTable
   table-refused {r} = by (loops (t .parents) (t .count)) (ltb (t .period) (path t))
     where
-      by : (b c : Bool) → pick b (Refused (refusal loop 0)) (pick c (Refused (refusal longPath 0)) Accepted) ≡ Refused r → pick b (refuse loop 0) (pick c (refuse longPath 0) (go t)) ≡ refuse (r .number) (r .place)
+      by : (b c : Bool) → pick b (Refused (refusal loop 0)) (pick c (Refused (refusal longPath 0)) Accepted) ≡ Refused r → pick b (refuse (refusal loop 0)) (pick c (refuse (refusal longPath 0)) (go t)) ≡ refuse r
       by true c e = let same : r ≡ refusal loop 0 = cc in rw same
       by false true e = let same : r ≡ refusal longPath 0 = cc in rw same
       by false false e = absurd (not-both e refl)
@@ -56,7 +57,7 @@ module _ {A : Type 0} (refuse : ℕ → ℕ → A) (go : TaskTable → A) (t : T
   unfolding onTable
   table-accepted = by (loops (t .parents) (t .count)) (ltb (t .period) (path t))
     where
-      by : (b c : Bool) → pick b (Refused (refusal loop 0)) (pick c (Refused (refusal longPath 0)) Accepted) ≡ Accepted → pick b (refuse loop 0) (pick c (refuse longPath 0) (go t)) ≡ go t
+      by : (b c : Bool) → pick b (Refused (refusal loop 0)) (pick c (Refused (refusal longPath 0)) Accepted) ≡ Accepted → pick b (refuse (refusal loop 0)) (pick c (refuse (refusal longPath 0)) (go t)) ≡ go t
       by true c e = absurd (not-both refl e)
       by false true e = absurd (not-both refl e)
       by false false e = refl
@@ -72,18 +73,18 @@ refused-some t {r} = by (loops (t .parents) (t .count)) (ltb (t .period) (path t
     by false false e z = absurd (not-both e refl)
 
 -- a record, by the outcome of its reading
-module _ {A : Type 0} (refuse : ℕ → ℕ → A) (go : TaskTable → A) (bytes : List ℕ) where
-  pub task-refused : {r : Refusal} → readingOf bytes .outcome ≡ Refused r → onTask refuse go bytes ≡ refuse (r .number) (r .place)
-  unfolding onTask onReading
+module _ {A : Type 0} (refuse : Refusal → A) (go : TaskTable → A) (bytes : List ℕ) where
+  pub task-refused : {r : Refusal} → readingOf bytes .outcome ≡ Refused r → onTask refuse go bytes ≡ refuse r
+  unfolding onTask
   task-refused e = rw e
 
-  pub task-read : readingOf bytes .outcome ≡ Accepted → onTask refuse go bytes ≡ onTable refuse go (readingOf bytes .table)
-  unfolding onTask onReading
+  pub task-read : readingOf bytes .outcome ≡ Accepted → onTask refuse go bytes ≡ onTable refuse go (taskOf bytes)
+  unfolding onTask
   task-read e = rw e
 
 -- the words lent to a plan
 module _ (bytes words : List ℕ) where
-  pub few : length words < wordsMax → planCall bytes words ≡ unplanned words fewWords 0
+  pub few : length words < wordsMax → planCall bytes words ≡ unplanned words (refusal fewWords 0)
   unfolding planCall
   few h = rw (lt-ltb (length words) wordsMax h)
 
@@ -91,10 +92,10 @@ module _ (bytes words : List ℕ) where
   unfolding planCall
   enough h = rw (le-ltb (length words) wordsMax h)
 
--- a plan that a refusal is held against, and one that none is
-module _ (held : Answer) (words : List ℕ) (t : TaskTable) where
-  pub held-back : (held .refusal ≡ 0 → ⊥) → plannedUnless held words t ≡ record { answer = held; words = words }
-  held-back n = rw (ne-eqb (held .refusal) 0 n)
+-- a plan that a later rule refuses, and one that none does
+module _ (later : Answer) (words : List ℕ) (t : TaskTable) where
+  pub later-refuses : (later .refusal ≡ 0 → ⊥) → unlessLater later words t ≡ record { answer = later; lent = words }
+  later-refuses n = rw (ne-eqb (later .refusal) 0 n)
 
-  pub not-held : held .refusal ≡ 0 → plannedUnless held words t ≡ planned words t
-  not-held e = rw (eq-eqb (held .refusal) 0 e)
+  pub later-accepts : later .refusal ≡ 0 → unlessLater later words t ≡ planned words t
+  later-accepts e = rw (eq-eqb (later .refusal) 0 e)

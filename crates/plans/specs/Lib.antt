@@ -4,4 +4,4 @@ pub mod Words
 pub mod Calls
 pub mod Accepted
 pub mod Kept
-pub mod Drawn
+pub mod Inner

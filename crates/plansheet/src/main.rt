@@ -11,6 +11,7 @@ fn at_end() -> bool {
 
 fn main() {
     let mut record = [0u8; 8192];
+    let mut out = [0u8; sheets::SHEET_MAX];
     let got = io::read_full(STDIN_FILENO, &mut record);
     if got == 0 {
         if !at_end() {
@@ -18,10 +19,6 @@ fn main() {
             return;
         }
     }
-    let mut out = [0u8; sheets::SHEET_MAX];
     let n = sheets::sheet(&record[..got], &mut out);
-    // Always so, since every sheet fits; the part of the buffer asks for it.
-    if n <= sheets::SHEET_MAX {
-        io::write_all(STDOUT_FILENO, &out[..n]);
-    }
+    io::write_all(STDOUT_FILENO, &out[..n]);
 }

@@ -1,7 +1,7 @@
 -- What a reading can be. Every number that goes into the table passed its range, and what no node has filled is still 0; so an accepted table
 -- is in range. Every refusal stands beside the empty table.
 use Prim.Native.Nat.{ℕ, zero, suc, _+_, _^_, _≤_, _<_}
-use mathlib.Core.Path.{_≡_, refl, ap, _∙_}
+use mathlib.Core.Path.{_≡_, refl, _∙_}
 use mathlib.Core.Logic.{⊎-elim}
 use mathlib.Core.Bool.{Bool, true, false}
 use mathlib.Core.List.{List}
@@ -22,13 +22,14 @@ use Rattle.tables.specs.Limits.{idMax, periodMax, countMax, executionMax}
 use Rattle.tables.specs.Table.{emptyTable}
 use Rattle.tables.specs.Range.{InRange}
 use Rattle.numbers.proofs.Cases.{clash}
-use Rattle.records.specs.declared.Outcome.the-variants.{Accepted, Refused}
+use Rattle.refusals.specs.declared.Outcome.the-variants.{Accepted, Refused}
 use Rattle.records.specs.declared.Reading.{Reading}
 use Rattle.records.specs.declared.Step.{Step}
-use Rattle.records.specs.Step.{refusal, andThen}
-use Rattle.records.specs.Nodes.{accepted, refused, withNode, nothingFollows, nodes}
-use Rattle.records.specs.Reading.{headed, fromPeriod, readingOf}
-use Rattle.records.proofs.Inside.{Told, Inside, then-inside, ranged-inside, parentSet-inside}
+use Rattle.refusals.specs.Refusal.{refusal}
+use Rattle.records.specs.Step.{andThen}
+use Rattle.records.specs.Nodes.{tableRead, noTable, withNode, nothingFollows, nodes}
+use Rattle.records.specs.Reading.{headed, readingOf}
+use Rattle.records.proofs.Inside.{Inside, then-inside, ranged-inside, parentSet-inside}
 
 -- an array whose first i entries are as P says, the others 0
 record Part (P : ℕ → Type 0) (i : ℕ) (l : List ℕ) : Type 0 where
@@ -90,25 +91,25 @@ filling-all i t e g = let f : Filling (t .count) t = rw e at g in record {
   parents-past = f .parents .rest;
 }
 
--- a reading of an input of `size` bytes: a table in range, or a refusal beside the empty table
-pub data Answer (size : ℕ) : Reading → Type 0 where
-  taken : (t : TaskTable) → InRange t → Answer size (accepted t)
-  turned : (r : Refusal) → Told size r → Answer size (refused r)
+-- a reading: a table in range, or a refusal beside the empty table
+pub data Answer : Reading → Type 0 where
+  taken : (t : TaskTable) → InRange t → Answer (tableRead t)
+  turned : (r : Refusal) → Answer (noTable r)
 
 -- a step, and then an answer
 then-answer : (s : List ℕ) (P : ℕ → Type 0) (step : Step) (more : ℕ → ℕ → Reading) → Inside (length s) P step →
-    ((v next : ℕ) → P v → next ≤ length s → Answer (length s) (more v next)) →
-    Answer (length s) (andThen refused step more)
-then-answer s P step more i m = then-inside (Answer (length s)) (length s) P refused step more i turned m
+    ((v next : ℕ) → P v → next ≤ length s → Answer (more v next)) →
+    Answer (andThen noTable step more)
+then-answer s P step more i m = then-inside (Answer) (length s) P noTable step more i turned m
 
 -- the nodes, over a table whose first i were read
 nodes-answer : (k i : ℕ) (t : TaskTable) (s : List ℕ) (from : ℕ) → i + k ≡ t .count → from ≤ length s → Filling i t →
-    Answer (length s) (nodes k i t s from)
+    Answer (nodes k i t s from)
 unfolding nodes nothingFollows
 nodes-answer zero i t s from e h f = by (ltb from (length s))
   where
-    by : (b : Bool) → Answer (length s) (pick b (refused (refusal bytesFollow from)) (accepted t))
-    by true = turned (refusal bytesFollow from) (omega arith)
+    by : (b : Bool) → Answer (pick b (noTable (refusal bytesFollow from)) (tableRead t))
+    by true = turned (refusal bytesFollow from)
     by false = taken t (filling-all i t (omega arith) f)
 nodes-answer (suc k) i t s from e h f =
     then-answer s _ _ _ (ranged-inside _ _ _ s from (omega arith)) λ x at₁ p h₁.
@@ -116,8 +117,8 @@ nodes-answer (suc k) i t s from e h f =
     nodes-answer k (i + 1) (withNode t i x w) s at₂ (omega arith) h₂ (filling-more i t x w (omega arith) p q f)
 
 -- every reading
-pub answer : (s : List ℕ) → Answer (length s) (readingOf s)
-unfolding readingOf fromPeriod
+pub answer : (s : List ℕ) → Answer (readingOf s)
+unfolding readingOf
 answer s =
     then-answer s _ _ _ (ranged-inside _ _ _ s 0 (omega arith)) λ _ at₁ _ h₁.
     then-answer s _ _ _ (ranged-inside _ _ _ s at₁ (omega arith)) λ id at₂ i h₂.
@@ -130,18 +131,14 @@ answer s =
 pub accepted-table : (s : List ℕ) → readingOf s .outcome ≡ Accepted → InRange (readingOf s .table)
 accepted-table s e = by (readingOf s) (answer s) e
   where
-    by : (x : Reading) → Answer (length s) x → x .outcome ≡ Accepted → InRange (x .table)
+    by : (x : Reading) → Answer x → x .outcome ≡ Accepted → InRange (x .table)
     by _ (taken t h) e = h
-    by _ (turned r h) e = clash (cc)
+    by _ (turned r) e = clash (cc)
 
 pub refused-table : (s : List ℕ) (r : Refusal) → readingOf s .outcome ≡ Refused r →
-    (readingOf s .table ≡ emptyTable) × Told (length s) r
+    readingOf s .table ≡ emptyTable
 refused-table s r e = by (readingOf s) (answer s) e
   where
-    by : (x : Reading) → Answer (length s) x → x .outcome ≡ Refused r → (x .table ≡ emptyTable) × Told (length s) r
+    by : (x : Reading) → Answer x → x .outcome ≡ Refused r → x .table ≡ emptyTable
     by _ (taken t h) e = clash (cc)
-    by _ (turned q h) e = let d : q ≡ r = cc in (refl, rw d at h)
-
--- an accepted table is in range
-pub accepted-in-range : (s : List ℕ) (t : TaskTable) → readingOf s ≡ accepted t → InRange t
-accepted-in-range s t e = let d = accepted-table s (ap (λ (x : Reading). x .outcome) e) in rw e at d
+    by _ (turned q) e = refl

@@ -5,8 +5,7 @@ use mathlib.Core.Logic.{_⊎_, ⊎-elim}
 use mathlib.Core.Bool.{and-false}
 use mathlib.Core.List.{List, [], _∷_}
 use native.Mathlib.Omega.{arith}
-use lib.ListN.{length, take, drop, getD}
-use lib.Seq.{drop-cons}
+use lib.ListN.{length, take, drop}
 use borrow.Author.Tests.{le-leb, lt-leb, le-ltb, lt-ltb}
 use types.Run.{OneOf}
 use denote.Enum.Declared.{tagOf}
@@ -15,16 +14,19 @@ use Rattle.refusals.specs.Numbers.{badForm, badExecution, badParent, bytesFollo
 use Rattle.tables.specs.declared.TaskTable.{TaskTable}
 use Rattle.tables.specs.Limits.{executionMax}
 use Rattle.numbers.proofs.Number.{the-type}
-use Rattle.numbers.proofs.Cases.{part-from, last}
+use Rattle.plain.proofs.Lists.{part-from}
 use Rattle.numbers.specs.declared.Number.{Number}
 use Rattle.numbers.specs.declared.Number.the-variants.{Value, Ended, TooLong, NotShortest}
 use Rattle.numbers.specs.Number.{number, recordMore}
 use Rattle.records.specs.declared.Step.{Step}
 use Rattle.records.specs.declared.Step.the-variants.{Read, Refused}
-use Rattle.records.specs.Step.{refusal, andThen}
+use Rattle.refusals.specs.Refusal.{refusal}
+use Rattle.records.specs.Step.{andThen}
+use Rattle.records.specs.declared.Two.{Two}
+use Rattle.records.specs.Inner.Two.{twoOf}
 use Rattle.records.specs.Ranged.{stepOf, whole, ranged}
 use Rattle.records.specs.Parents.{parents, parentSet}
-use Rattle.records.specs.Nodes.{accepted, refused, withNode, nothingFollows, nodes}
+use Rattle.records.specs.Nodes.{tableRead, noTable, withNode, nothingFollows, nodes}
 
 -- a step that read, and one that refused
 pub then-read : {A : Type 0} (out : Refusal → A) (step : Step) (more : ℕ → ℕ → A) (v next : ℕ) → step ≡ Read v next →
@@ -40,6 +42,22 @@ then-refused out step more r e = rw e
 pub then-out : {A : Type 0} (out : Refusal → A) (step found : Step) (more instead : ℕ → ℕ → A) (r : Refusal) →
     found ≡ step → found ≡ Refused r → andThen out found instead ≡ andThen out step more
 then-out out step found more instead r e d = then-refused _ _ _ _ d ∙ sym (then-refused _ _ _ _ (sym e ∙ d))
+
+-- two steps in a row, told as a pair: where the first read, where it was refused, and what comes after both
+pub two-read : (step : Step) (then : ℕ → Step) (v next : ℕ) → step ≡ Read v next → twoOf step then ≡ record { value = v; step = then next }
+two-read step then v next e = rw e
+
+pub two-refused : (step : Step) (then : ℕ → Step) (r : Refusal) → step ≡ Refused r → twoOf step then ≡ record { value = 0; step = Refused r }
+two-refused step then r e = rw e
+
+pub then-two : {A : Type 0} (out : Refusal → A) (step : Step) (then : ℕ → Step) (more : ℕ → ℕ → ℕ → A) (found : Two) → found ≡ twoOf step then →
+    andThen out step (λ v next. andThen out (then next) (more v)) ≡ andThen out (found .step) (more (found .value))
+unfolding andThen
+then-two out step then more found e = by step ∙ ap (λ (x : Two). andThen out (x .step) (more (x .value))) (sym e)
+  where
+    by : (s : Step) → andThen out s (λ v next. andThen out (then next) (more v)) ≡ andThen out (twoOf s then .step) (more (twoOf s then .value))
+    by (Read v next) = refl
+    by (Refused r) = refl
 
 -- a number that neither ended nor has a value
 bad-form : (size at : ℕ) (found : Number) →
@@ -59,11 +77,6 @@ module _ (s : List ℕ) (at : ℕ) (found : Number) (e : found ≡ number record
   pub whole-bad : OneOf (0 ∷ 2 ∷ 3 ∷ []) (tagOf the-type found) → OneOf (1 ∷ 2 ∷ 3 ∷ []) (tagOf the-type found) →
       whole s at ≡ Refused (refusal badForm at)
   whole-bad g h = whole-is found refl ∙ bad-form (length s) at found g h
-
--- a number of one byte at a place
-pub one-byte : (s : List ℕ) (at b : ℕ) → b ≡ getD s at 0 → at < length s → b < 128 → whole s at ≡ Read b (at + 1)
-unfolding whole
-one-byte s at b e h l = rw (drop-cons s at 0 h, last recordMore (getD s at 0 ∷ drop (suc at) s) b (omega arith) e l)
 
 -- a number that is not whole; one that is, outside its range and in it
 pub ranged-refused : (broken low high : ℕ) (s : List ℕ) (at : ℕ) (r : Refusal) → whole s at ≡ Refused r →
@@ -100,11 +113,11 @@ module _ (n low set : ℕ) (s : List ℕ) (at : ℕ) where
 
 -- a byte follows, and none does
 module _ (t : TaskTable) (s : List ℕ) (at : ℕ) where
-  pub some-follow : at < length s → nothingFollows t s at ≡ refused (refusal bytesFollow at)
+  pub some-follow : at < length s → nothingFollows t s at ≡ noTable (refusal bytesFollow at)
   unfolding nothingFollows
   some-follow h = simp (lt-ltb _ _ h)
 
-  pub none-follow : length s ≤ at → nothingFollows t s at ≡ accepted t
+  pub none-follow : length s ≤ at → nothingFollows t s at ≡ tableRead t
   unfolding nothingFollows
   none-follow h = simp (le-ltb _ _ h)
 
@@ -115,8 +128,8 @@ module _ (i n : ℕ) (t : TaskTable) (s : List ℕ) (at : ℕ) where
   nodes-none h = let e : n - i ≡ 0 = omega arith in rw (e, nodes)
 
   pub nodes-more : i < n → t .count ≡ n → nodes (n - i) i t s at ≡
-      andThen refused (ranged badExecution 1 executionMax s at) λ e at₁.
-      andThen refused (parentSet n s at₁) λ w at₂.
+      andThen noTable (ranged badExecution 1 executionMax s at) λ e at₁.
+      andThen noTable (parentSet n s at₁) λ w at₂.
       nodes (n - (i + 1)) (i + 1) (withNode t i e w) s at₂
   unfolding nodes
   nodes-more h d = let e : n - i ≡ suc (n - (i + 1)) = omega arith in rw (e, nodes, ← d)

@@ -1,5 +1,4 @@
--- No step leaves the input: a number's bytes are bytes of the rest, so the place after it is at most the input's length; and a refusal stands
--- where the reader has come to, or at the input's end.
+-- No step leaves the input: a number's bytes are bytes of the rest, so the place after it is at most the input's length.
 use Prim.Native.Nat.{ℕ, zero, suc, _+_, _-_, _*_, _%_, _^_, _≤_, _<_}
 use mathlib.Core.Path.{_≡_, refl, sym, ap, _∙_}
 use mathlib.Core.Bool.{Bool, true, false, _&&_}
@@ -13,43 +12,41 @@ use lib.Pow.{pow-lt, pow-mono}
 use borrow.Author.Tests.{leb-true}
 use Rattle.plain.specs.Pick.{pick}
 use Rattle.refusals.specs.declared.Refusal.{Refusal}
-use Rattle.refusals.specs.Numbers.{badParent, bytesFollow}
+use Rattle.refusals.specs.Numbers.{badParent}
 use Rattle.numbers.specs.declared.Number.{Number}
 use Rattle.numbers.specs.declared.Number.the-variants.{Value, Ended, TooLong, NotShortest}
 use Rattle.numbers.specs.Number.{number, recordMore}
 use Rattle.numbers.proofs.Bounds.{value-bounded}
+use Rattle.numbers.proofs.Cases.{clash}
 use Rattle.records.specs.declared.Step.{Step}
 use Rattle.records.specs.declared.Step.the-variants.{Read, Refused}
-use Rattle.records.specs.Step.{refusal, andThen}
+use Rattle.refusals.specs.Refusal.{refusal}
+use Rattle.records.specs.Step.{andThen}
+use Rattle.records.specs.declared.Two.{Two}
+use Rattle.records.specs.Inner.Two.{twoOf}
 use Rattle.records.specs.Ranged.{stepOf, whole, ranged}
 use Rattle.records.specs.Parents.{parents, parentSet}
-
--- a refusal of the reader: 1 to 9, at a byte of the input or at its end
-pub record Told (size : ℕ) (r : Refusal) : Type 0 where
-  pub low : 1 ≤ r .number
-  pub high : r .number ≤ bytesFollow
-  pub place : r .place ≤ size
 
 -- a step inside an input of `size` bytes, with a value that is as P says
 abbrev pub Inside : ℕ → (ℕ → Type 0) → Step → Type 0
 Inside size P (Read v next) = P v × (next ≤ size)
-Inside size P (Refused r) = Told size r
+Inside size P (Refused r) = Unit
 
 -- what holds of every refusal, and of what comes after every value, holds of both together
 pub then-inside : {A : Type 0} (Q : A → Type 0) (size : ℕ) (P : ℕ → Type 0) (out : Refusal → A) (step : Step) (more : ℕ → ℕ → A) →
     Inside size P step →
-    ((r : Refusal) → Told size r → Q (out r)) →
+    ((r : Refusal) → Q (out r)) →
     ((v next : ℕ) → P v → next ≤ size → Q (more v next)) →
     Q (andThen out step more)
 unfolding andThen
 then-inside Q size P out (Read v next) more i t m = m v next (i .0) (i .1)
-then-inside Q size P out (Refused r) more i t m = t r i
+then-inside Q size P out (Refused r) more i t m = t r
 
 -- a step after a step
 then-step : (size : ℕ) (P Q : ℕ → Type 0) (step : Step) (more : ℕ → ℕ → Step) → Inside size P step →
     ((v next : ℕ) → P v → next ≤ size → Inside size Q (more v next)) →
     Inside size Q (andThen Refused step more)
-then-step size P Q step more i m = then-inside (Inside size Q) size P Refused step more i (λ r t. t) m
+then-step size P Q step more i m = then-inside (Inside size Q) size P Refused step more i (λ r. tt) m
 
 -- a step that read
 pub read-inside : (size : ℕ) (P : ℕ → Type 0) (step : Step) (v next : ℕ) → step ≡ Read v next → Inside size P step → P v × (next ≤ size)
@@ -62,23 +59,23 @@ whole-inside s at h = by (number recordMore (drop at s)) refl
   where
     by : (r : Number) → number recordMore (drop at s) ≡ r → Inside (length s) (λ v. Unit {0}) (stepOf (length s) at r)
     by (Value v n) e = (tt, omega (arith, value-bounded recordMore (drop at s) v n e .within, length-drop at s))
-    by Ended e = omega arith
-    by TooLong e = omega arith
-    by (NotShortest v n) e = omega arith
+    by Ended e = tt
+    by TooLong e = tt
+    by (NotShortest v n) e = tt
 
-pub ranged-inside : (broken low high : ℕ) (s : List ℕ) (at : ℕ) → Told (length s) (refusal broken at) →
+pub ranged-inside : (broken low high : ℕ) (s : List ℕ) (at : ℕ) → at ≤ length s →
     Inside (length s) (λ v. (low ≤ v) × (v ≤ high)) (ranged broken low high s at)
 unfolding ranged
-ranged-inside broken low high s at b =
-    then-step (length s) _ _ _ _ (whole-inside s at (b .place)) λ v next u h.
+ranged-inside broken low high s at a =
+    then-step (length s) _ _ _ _ (whole-inside s at a) λ v next u h.
     by v next h (leb low v) (leb v high) refl refl
   where
     by : (v next : ℕ) → next ≤ length s → (l g : Bool) → leb low v ≡ l → leb v high ≡ g →
         Inside (length s) (λ v. (low ≤ v) × (v ≤ high)) (pick (l && g) (Read v next) (Refused (refusal broken at)))
     by v next h true true p q = ((leb-true low v p, leb-true v high q), h)
-    by v next h true false p q = b
-    by v next h false true p q = b
-    by v next h false false p q = b
+    by v next h true false p q = tt
+    by v next h false true p q = tt
+    by v next h false false p q = tt
 
 -- a number that the code read and that passed its range
 pub record Passed (broken low high : ℕ) (s : List ℕ) (at v next : ℕ) : Type 0 where
@@ -88,12 +85,24 @@ pub record Passed (broken low high : ℕ) (s : List ℕ) (at v next : ℕ) : Typ
   pub inside : next ≤ length s
 
 pub passed : (broken low high : ℕ) (s : List ℕ) (at : ℕ) (found : Step) (v next : ℕ) →
-    found ≡ ranged broken low high s at → found ≡ Read v next → Told (length s) (refusal broken at) →
+    found ≡ ranged broken low high s at → found ≡ Read v next → at ≤ length s →
     Passed broken low high s at v next
-passed broken low high s at found v next e d t =
+passed broken low high s at found v next e d a =
     let q : ranged broken low high s at ≡ Read v next = sym e ∙ d in
-    let i = read-inside (length s) (λ v. (low ≤ v) × (v ≤ high)) _ v next q (ranged-inside broken low high s at t) in
+    let i = read-inside (length s) (λ v. (low ≤ v) × (v ≤ high)) _ v next q (ranged-inside broken low high s at a) in
     record { is = q; least = i .0 .0; most = i .0 .1; inside = i .1 }
+
+-- the second of two numbers that the code read, from the place after the first
+pub two-passed : (broken high wrong most : ℕ) (s : List ℕ) (at : ℕ) (found : Two) (w next : ℕ) →
+    found ≡ twoOf (ranged broken 1 high s at) (ranged wrong 1 most s) → found .step ≡ Read w next →
+    at ≤ length s → (place : ℕ) × Passed wrong 1 most s place w next
+two-passed broken high wrong most s at found w next e d a = by (ranged broken 1 high s at) refl e
+  where
+    by : (step : Step) → ranged broken 1 high s at ≡ step → found ≡ twoOf step (ranged wrong 1 most s) → (place : ℕ) × Passed wrong 1 most s place w next
+    by (Read v place) q e =
+        let p = passed broken 1 high s at _ v place refl q a in
+        (place, passed wrong 1 most s place (found .step) w next (ap (λ (x : Two). x .step) e) d (p .inside))
+    by (Refused r) q e = clash (let z : Refused r ≡ Read w next = ap (λ (x : Two). x .step) (sym e) ∙ d in cc)
 
 -- a set of numbers below low has room for p
 pub set-room : (set low p : ℕ) → set < 2 ^ low → low ≤ p → set + 2 ^ p < 2 ^ (p + 1)
@@ -112,11 +121,11 @@ pub parents-inside : (k n low set : ℕ) (s : List ℕ) (at : ℕ) → 1 ≤ n �
 unfolding parents
 parents-inside zero n low set s at o l h a = (lt-of-lt-of-le h (pow-mono l), a)
 parents-inside (suc k) n low set s at o l h a =
-    then-step (length s) _ _ _ _ (ranged-inside badParent low (n - 1) s at (omega arith)) λ p next i b.
+    then-step (length s) _ _ _ _ (ranged-inside badParent low (n - 1) s at a) λ p next i b.
     parents-inside k n (p + 1) (set + 2 ^ p) s next o (omega arith) (set-room set low p h (i .0)) b
 
 pub parentSet-inside : (n : ℕ) (s : List ℕ) (at : ℕ) → 1 ≤ n → at ≤ length s → Inside (length s) (λ v. v < 2 ^ n) (parentSet n s at)
 unfolding parentSet
 parentSet-inside n s at o a =
-    then-step (length s) _ _ _ _ (ranged-inside badParent 0 n s at (omega arith)) λ k next i b.
+    then-step (length s) _ _ _ _ (ranged-inside badParent 0 n s at a) λ k next i b.
     parents-inside k n 0 0 s next o (omega arith) (omega arith) b

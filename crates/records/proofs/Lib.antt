@@ -1,4 +1,7 @@
 pub mod Cases
 pub mod Inside
 pub mod Answers
-pub mod Worked
+pub mod Expected
+pub mod Written
+pub mod Again
+pub mod Back

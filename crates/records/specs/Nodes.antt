@@ -9,19 +9,20 @@ use Rattle.refusals.specs.Numbers.{badExecution, bytesFollow}
 use Rattle.tables.specs.declared.TaskTable.{TaskTable}
 use Rattle.tables.specs.Limits.{executionMax}
 use Rattle.tables.specs.Table.{emptyTable}
-use Rattle.records.specs.declared.Outcome.the-variants.{Accepted, Refused}
+use Rattle.refusals.specs.declared.Outcome.the-variants.{Accepted, Refused}
 use Rattle.records.specs.declared.Reading.{Reading}
-use Rattle.records.specs.Step.{refusal, andThen}
+use Rattle.refusals.specs.Refusal.{refusal}
+use Rattle.records.specs.Step.{andThen}
 use Rattle.records.specs.Ranged.{ranged}
 use Rattle.records.specs.Parents.{parentSet}
 
 -- "The table read from a record"
-abbrev pub accepted : TaskTable → Reading
-accepted t = record { outcome = Accepted; table = t }
+abbrev pub tableRead : TaskTable → Reading
+tableRead t = record { outcome = Accepted; table = t }
 
 -- "A refusal returns its number and place, and with them, from any reader of a table, a table that is all zeros"
-abbrev pub refused : Refusal → Reading
-refused r = record { outcome = Refused r; table = emptyTable }
+abbrev pub noTable : Refusal → Reading
+noTable r = record { outcome = Refused r; table = emptyTable }
 
 -- the table with node i's execution and its parent set, "a set being one 64-bit word"
 abbrev pub withNode : TaskTable → ℕ → ℕ → ℕ → TaskTable
@@ -29,12 +30,12 @@ withNode t i e w = record { id = t .id; period = t .period; count = t .count; ex
 
 -- "Nothing follows.": 9 stands at the "first such byte"
 unfoldable pub nothingFollows : TaskTable → List ℕ → ℕ → Reading
-nothingFollows t bytes at = pick (ltb at (length bytes)) (refused (refusal bytesFollow at)) (accepted t)
+nothingFollows t bytes at = pick (ltb at (length bytes)) (noTable (refusal bytesFollow at)) (tableRead t)
 
 -- "then for each node 0..n-1 its execution (1..65,535), its parent count (0..n) and that many parent numbers": k nodes from node i on
 unfoldable pub nodes : ℕ → ℕ → TaskTable → List ℕ → ℕ → Reading
 nodes zero i t bytes at = nothingFollows t bytes at
 nodes (suc k) i t bytes at =
-    andThen refused (ranged badExecution 1 executionMax bytes at) λ e at₁.
-    andThen refused (parentSet (t .count) bytes at₁) λ w at₂.
+    andThen noTable (ranged badExecution 1 executionMax bytes at) λ e at₁.
+    andThen noTable (parentSet (t .count) bytes at₁) λ w at₂.
     nodes k (i + 1) (withNode t i e w) bytes at₂

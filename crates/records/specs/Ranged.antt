@@ -11,7 +11,8 @@ use Rattle.numbers.specs.declared.Number.the-variants.{Value, Ended, TooLong, N
 use Rattle.numbers.specs.Number.{number, recordMore}
 use Rattle.records.specs.declared.Step.{Step}
 use Rattle.records.specs.declared.Step.the-variants.{Read, Refused}
-use Rattle.records.specs.Step.{refusal, andThen}
+use Rattle.refusals.specs.Refusal.{refusal}
+use Rattle.records.specs.Step.{andThen}
 
 -- 1 stands at the "input length", 2 at the "number's first byte": what was found at `at` of an input of `size` bytes
 abbrev pub stepOf : ℕ → ℕ → Number → Step

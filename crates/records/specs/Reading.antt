@@ -8,7 +8,7 @@ use Rattle.tables.specs.Table.{emptyTable}
 use Rattle.records.specs.declared.Reading.{Reading}
 use Rattle.records.specs.Step.{andThen}
 use Rattle.records.specs.Ranged.{ranged}
-use Rattle.records.specs.Nodes.{refused, nodes}
+use Rattle.records.specs.Nodes.{noTable, nodes}
 
 -- "edition (1)"
 abbrev pub edition : ℕ
@@ -18,16 +18,11 @@ edition = 1
 abbrev pub headed : ℕ → ℕ → ℕ → TaskTable
 headed id period n = record { id = id; period = period; count = n; execution = emptyTable .execution; parents = emptyTable .parents }
 
--- "period (1..16,777,215); node count n (1..64);" and then the nodes
-unfoldable pub fromPeriod : ℕ → List ℕ → ℕ → Reading
-fromPeriod id bytes at =
-    andThen refused (ranged badPeriod 1 periodMax bytes at) λ period at₁.
-    andThen refused (ranged badCount 1 countMax bytes at₁) λ n at₂.
-    nodes n 0 (headed id period n) bytes at₂
-
--- "A record is, in order: edition (1); task id (1..65,535);" and then the period and what is after it
+-- "A record is, in order: edition (1); task id (1..65,535); period (1..16,777,215); node count n (1..64);" and then the nodes
 unfoldable pub readingOf : List ℕ → Reading
 readingOf bytes =
-    andThen refused (ranged badEdition edition edition bytes 0) λ _ at₁.
-    andThen refused (ranged badId 1 idMax bytes at₁) λ id at₂.
-    fromPeriod id bytes at₂
+    andThen noTable (ranged badEdition edition edition bytes 0) λ _ at₁.
+    andThen noTable (ranged badId 1 idMax bytes at₁) λ id at₂.
+    andThen noTable (ranged badPeriod 1 periodMax bytes at₂) λ period at₃.
+    andThen noTable (ranged badCount 1 countMax bytes at₃) λ n at₄.
+    nodes n 0 (headed id period n) bytes at₄

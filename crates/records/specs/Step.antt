@@ -4,10 +4,6 @@ use Rattle.refusals.specs.declared.Refusal.{Refusal}
 use Rattle.records.specs.declared.Step.{Step}
 use Rattle.records.specs.declared.Step.the-variants.{Read, Refused}
 
--- "its number and place"
-abbrev pub refusal : ℕ → ℕ → Refusal
-refusal number place = record { number = number; place = place }
-
 -- a step, and then `more` of its value and the place after it; "a refusal goes straight out with its place"
 unfoldable pub andThen : {A : Type 0} → (Refusal → A) → Step → (ℕ → ℕ → A) → A
 andThen out (Read value next) more = more value next

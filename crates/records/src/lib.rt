@@ -1,17 +1,20 @@
 // Reads a task record.
 use numbers::Number;
+use refusals::Outcome;
 use refusals::Refusal;
 use tables::TaskTable;
 ghost use mathlib.Core.Path.{_≡_};
-ghost use Prim.Native.Nat.{_^_, _≤_, _<_};
+ghost use Prim.Native.Nat.{_≤_, _<_};
 ghost use lib.ListN.{length};
 ghost use Rattle.tables.specs.Limits.{countMax};
 ghost use Rattle.tables.specs.Table.{emptyTable};
-ghost use Rattle.records.specs.Step.{refusal, andThen};
+ghost use Rattle.refusals.specs.Refusal.{refusal};
+ghost use Rattle.records.specs.Step.{andThen};
 ghost use Rattle.records.specs.Ranged.{whole, ranged};
 ghost use Rattle.records.specs.Parents.{parents, parentSet};
-ghost use Rattle.records.specs.Nodes.{accepted, refused, nothingFollows, nodes};
-ghost use Rattle.records.specs.Reading.{fromPeriod, readingOf};
+ghost use Rattle.records.specs.Nodes.{tableRead, noTable, nothingFollows, nodes};
+ghost use Rattle.records.specs.Reading.{readingOf};
+ghost use Rattle.records.specs.Inner.Two.{twoOf};
 
 // A value with the place after it, or a refusal.
 pub enum Step {
@@ -19,9 +22,10 @@ pub enum Step {
     Refused(Refusal),
 }
 
-pub enum Outcome {
-    Accepted,
-    Refused(Refusal),
+// The value of a first number beside the step of the one after it; where the first is refused, its refusal.
+pub struct Two {
+    pub value: u64,
+    pub step: Step,
 }
 
 // What a record comes to. A refusal has a table that is all zeros.
@@ -35,7 +39,7 @@ const EDITION: u64 = 1;
 fn refuse(number: u64, place: usize) -> Step
     ensures { λ r. ⌜ r ≡ Step.Refused (refusal number place) ⌝ }
 {
-    Step::Refused(Refusal { number, place })
+    Step::Refused(Refusal::of(number, place))
 }
 
 // The number at a place, whole.
@@ -71,55 +75,30 @@ fn read_ranged(bytes: &[u8], at: usize, broken: u64, low: u64, high: u64) -> Ste
     Step::Read { value, next }
 }
 
-// Parents read so far, from the front: how many are left, the least number that the next may be, their set, and the place after them.
-pub struct Run {
-    pub left: u64,
-    pub low: u64,
-    pub set: u64,
-    pub at: usize,
-}
-
-// The parents in front that are one byte each and in order, read byte by byte: every accepted parent is.
-fn short_parents(bytes: &[u8], from: usize, count: u64, n: u64) -> Run
-    requires { ⌜ (n ≤ countMax) × (count ≤ n) × (from ≤ length (now bytes)) ⌝ }
-    ensures { λ r. ⌜ parents (r .left) n (r .low) (r .set) (now (bytes .entry)) (r .at) ≡ parents count n 0 0 (now (bytes .entry)) from ⌝ }
-    ensures { λ r. ⌜ (r .low ≤ n) × (r .set < 2 ^ r .low) × (r .at ≤ length (now (bytes .entry))) ⌝ }
+// Two numbers of the head, one after the other, each at least 1: the first is broken above high, the second wrong above most.
+fn read_two(bytes: &[u8], at: usize, broken: u64, high: u64, wrong: u64, most: u64) -> Two
+    requires { ⌜ at ≤ length (now bytes) ⌝ }
+    ensures { λ r. ⌜ r ≡ twoOf (ranged broken 1 high (now (bytes .entry)) at) (ranged wrong 1 most (now (bytes .entry))) ⌝ }
 {
-    let all = from + count as usize;
-    let mut end = bytes.len();
-    if all < end {
-        end = all;
-    }
-    let mut low: u64 = 0;
-    let mut set: u64 = 0;
-    let mut at = from;
-    while at < end {
-        let byte = numbers::wide(bytes[at]);
-        if byte < low || n <= byte {
-            break;
-        }
-        set += 1 << byte;
-        low = byte + 1;
-        at += 1;
-    }
-    Run {
-        left: (all - at) as u64,
-        low,
-        set,
-        at,
+    let step = read_ranged(bytes, at, broken, 1, high);
+    let Step::Read { value, next } = step else {
+        return Two { value: 0, step };
+    };
+    Two {
+        value,
+        step: read_ranged(bytes, next, wrong, 1, most),
     }
 }
 
-// As many parent numbers as count says, each below n and above the one before, as a set. What the short way leaves is read, or refused, here.
+// As many parent numbers as count says, each below n and above the one before, as a set.
 fn read_parents(bytes: &[u8], from: usize, count: u64, n: u64) -> Step
     requires { ⌜ (1 ≤ n) × (n ≤ countMax) × (count ≤ n) × (from ≤ length (now bytes)) ⌝ }
     ensures { λ r. ⌜ r ≡ parents count n 0 0 (now (bytes .entry)) from ⌝ }
 {
-    let run = short_parents(bytes, from, count, n);
-    let mut left = run.left;
-    let mut low = run.low;
-    let mut set = run.set;
-    let mut at = run.at;
+    let mut left = count;
+    let mut low: u64 = 0;
+    let mut set: u64 = 0;
+    let mut at = from;
     while 0 < left {
         let step = read_ranged(bytes, at, Refusal::BAD_PARENT, low, n - 1);
         let Step::Read { value, next } = step else {
@@ -150,7 +129,7 @@ fn read_parent_set(bytes: &[u8], at: usize, n: u64) -> Step
 
 // A refusal on its way out, beside a table that is all zeros.
 fn rejected(step: Step) -> Reading
-    ensures { λ r. ⌜ r ≡ andThen refused step (λ _ _. accepted emptyTable) ⌝ }
+    ensures { λ r. ⌜ r ≡ andThen noTable step (λ _ _. tableRead emptyTable) ⌝ }
 {
     let table = TaskTable::empty();
     match step {
@@ -218,48 +197,44 @@ fn read_nodes(bytes: &[u8], from: usize, head: TaskTable) -> Reading
     nothing_follows(bytes, at, table)
 }
 
-// A record from its period on.
-fn read_from_period(bytes: &[u8], at: usize, id: u64) -> Reading
-    requires { ⌜ at ≤ length (now bytes) ⌝ }
-    ensures { λ r. ⌜ r ≡ fromPeriod id (now (bytes .entry)) at ⌝ }
+// The table that a record holds, or the refusal of the first rule that it breaks.
+pub fn read_record(bytes: &[u8]) -> Reading
+    ensures { λ r. ⌜ r ≡ readingOf (now (bytes .entry)) ⌝ }
 {
-    let first = read_ranged(bytes, at, Refusal::BAD_PERIOD, 1, TaskTable::PERIOD_MAX);
+    let named = read_two(
+        bytes,
+        0,
+        Refusal::BAD_EDITION,
+        EDITION,
+        Refusal::BAD_ID,
+        TaskTable::ID_MAX,
+    );
+    let first = named.step;
     let Step::Read {
-        value: period,
+        value: id,
         next: after,
     } = first
     else {
         return rejected(first);
     };
-    let second = read_ranged(bytes, after, Refusal::BAD_COUNT, 1, TaskTable::COUNT_MAX);
+    let timed = read_two(
+        bytes,
+        after,
+        Refusal::BAD_PERIOD,
+        TaskTable::PERIOD_MAX,
+        Refusal::BAD_COUNT,
+        TaskTable::COUNT_MAX,
+    );
+    let second = timed.step;
     let Step::Read { value: count, next } = second else {
         return rejected(second);
     };
     let table = TaskTable {
         id,
-        period,
+        period: timed.value,
         count: count as usize,
         execution: [0; 64],
         parents: [0; 64],
     };
     read_nodes(bytes, next, table)
-}
-
-// The table that a record holds, or the refusal of the first rule that it breaks.
-pub fn read_record(bytes: &[u8]) -> Reading
-    ensures { λ r. ⌜ r ≡ readingOf (now (bytes .entry)) ⌝ }
-{
-    let first = read_ranged(bytes, 0, Refusal::BAD_EDITION, EDITION, EDITION);
-    let Step::Read {
-        value: _,
-        next: after,
-    } = first
-    else {
-        return rejected(first);
-    };
-    let second = read_ranged(bytes, after, Refusal::BAD_ID, 1, TaskTable::ID_MAX);
-    let Step::Read { value: id, next } = second else {
-        return rejected(second);
-    };
-    read_from_period(bytes, next, id)
 }

@@ -1,6 +1,7 @@
 // Document 01's refusals: a number that says which rule was broken, and the place that it is told with.
 ghost use mathlib.Core.Path.{_≡_};
-ghost use Rattle.refusals.specs.Answer.{accepted, refused};
+ghost use Rattle.refusals.specs.Refusal.{refusal};
+ghost use Rattle.refusals.specs.Answer.{accepted, refused, answerOf};
 ghost use Rattle.refusals.specs.Numbers.{ended, badForm, badEdition, badId, badPeriod, badCount, badExecution, badParent, bytesFollow, loop, longPath, idStands, boardFull, notStanding, badCores, fewWords, unsoundBoard};
 
 // A number of the table and a place: a byte of the input, or 0.
@@ -43,6 +44,18 @@ impl Refusal {
     pub const FEW_WORDS: u64 = 16;
 
     pub const UNSOUND_BOARD: u64 = 17;
+
+    pub fn of(number: u64, place: usize) -> Self
+        ensures { λ r. ⌜ r ≡ refusal number place ⌝ }
+    {
+        Self { number, place }
+    }
+}
+
+// Whether something was accepted; else the refusal, whole.
+pub enum Outcome {
+    Accepted,
+    Refused(Refusal),
 }
 
 // What a public call answers: refusal 0 is acceptance, and then value is what the call returns; otherwise place is the refusal's.
@@ -64,14 +77,24 @@ impl Answer {
         }
     }
 
-    pub fn refused(refusal: u64, place: u64) -> Self
-        ensures { λ r. ⌜ r ≡ refused refusal place ⌝ }
+    pub fn refused(refusal: Refusal) -> Self
+        ensures { λ r. ⌜ r ≡ refused refusal ⌝ }
     {
         Self {
-            refusal,
-            place,
+            refusal: refusal.number,
+            place: refusal.place as u64,
             value: 0,
         }
+    }
+}
+
+// What an outcome is told as; an acceptance has the value 0.
+pub fn answer_of(outcome: Outcome) -> Answer
+    ensures { λ r. ⌜ r ≡ answerOf outcome ⌝ }
+{
+    match outcome {
+        Outcome::Accepted => Answer::accepted(0),
+        Outcome::Refused(refusal) => Answer::refused(refusal),
     }
 }
 

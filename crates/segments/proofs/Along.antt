@@ -11,12 +11,13 @@ use borrow.Author.Count.{below-more}
 use Rattle.plain.specs.At.{at}
 use Rattle.plain.specs.Pick.{upTo}
 use Rattle.plain.proofs.Lists.{lt-or-ge}
-use Rattle.lineups.specs.LinedUp.{LinedUp}
-use Rattle.sets.specs.Member.{bit, Member, withMember}
+use Rattle.lineups.specs.Inner.LinedUp.{LinedUp}
+use Rattle.sets.specs.Member.{bit, Member}
+use Rattle.sets.specs.Inner.Put.{withMember}
 use Rattle.sets.proofs.Bits.{bit-zero, bit-pow-other, mem-or, mem-or-l, mem-or-cases, not-mem, put-same, with-or}
 use Rattle.sets.proofs.Rule.{Collected}
-use Rattle.segments.specs.Along.{Behind, ReachedBy}
-use Rattle.segments.proofs.Flags.{upTo-yes, upTo-no}
+use Rattle.segments.specs.Inner.Along.{Behind, ReachedBy}
+use Rattle.plain.proofs.Flags.{upTo-yes, upTo-no}
 
 module _ {n : ℕ} {T : ℕ → ℕ} {l : List ℕ} where
   -- before the first step

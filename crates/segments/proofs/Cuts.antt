@@ -9,7 +9,8 @@ use native.Mathlib.Omega.{arith}
 use Rattle.plain.specs.Pick.{upTo}
 use Rattle.plain.specs.Sums.{sumTo}
 use Rattle.plain.proofs.Lists.{lt-or-ge}
-use Rattle.plain.proofs.Sums.{upTo-is, sum-less, sum-ones, le-maxTo, maxTo-is}
+use Rattle.plain.proofs.Flags.{upTo-is}
+use Rattle.plain.proofs.Sums.{sum-less, sum-ones, le-maxTo, maxTo-is}
 use Rattle.segments.specs.Cut.{latest, next, nextTo, cut}
 use Rattle.segments.proofs.Next.{next-le, next-gt, next-least, next-is, next-end}
 

@@ -8,7 +8,7 @@ use native.Mathlib.Decide.{le-ind}
 use native.Mathlib.Omega.{arith}
 use Rattle.plain.proofs.Lists.{lt-or-ge}
 use Rattle.segments.specs.Cut.{cut, latest, segments}
-use Rattle.segments.specs.Diagram.{Diagram}
+use Rattle.segments.specs.Inner.Diagram.{Diagram}
 use Rattle.segments.specs.Cutting.{Cutting}
 use Rattle.segments.proofs.Cuts.{Mark, gap, cut-none, cut-up, cut-le, cut-mark}
 use Rattle.segments.proofs.Segments.{cut-end, mark-le, segment-up, only-segments}

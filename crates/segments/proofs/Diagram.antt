@@ -9,7 +9,7 @@ use Rattle.plain.proofs.Lists.{lt-or-ge}
 use Rattle.sets.specs.Member.{bit, Member}
 use Rattle.segments.specs.Cut.{cut, segments}
 use Rattle.segments.specs.Running.{running, threads}
-use Rattle.segments.specs.Diagram.{Diagram}
+use Rattle.segments.specs.Inner.Diagram.{Diagram}
 use Rattle.segments.proofs.Cuts.{Mark, gap, cut-mark}
 use Rattle.segments.proofs.Segments.{mark-cut, segment-up}
 use Rattle.segments.proofs.Running.{bit-running, run-in, runs-late, runs-early, threads-pos}
@@ -28,16 +28,6 @@ module _ {n : ℕ} {S F X : ℕ → ℕ} (d : Diagram n S F X) where
 
   pub finish-cut : (v : ℕ) → v < n → (j : ℕ) × (j ≤ segments n F) × (cut n F j ≡ F v)
   finish-cut v h = mark-cut n F (finish-mark v h)
-
-  -- a node runs through all of a segment, or it has finished by its begin, or it starts at its end or later
-  pub whole-or-none : (j v : ℕ) → v < n → Member v (running n S F j) ⊎ ((F v ≤ cut n F j) ⊎ (cut n F (suc j) ≤ S v))
-  whole-or-none j v h = go (gap n F (start-mark v h) j) (gap n F (finish-mark v h) j)
-    where
-      go : (S v ≤ cut n F j) ⊎ (cut n F (suc j) ≤ S v) → (F v ≤ cut n F j) ⊎ (cut n F (suc j) ≤ F v)
-          → Member v (running n S F j) ⊎ ((F v ≤ cut n F j) ⊎ (cut n F (suc j) ≤ S v))
-      go (inr a) z = inr (inr a)
-      go (inl a) (inl b) = inr (inl b)
-      go (inl a) (inr b) = inl (run-in n S F j v h a b)
 
   -- a node without execution runs in no segment
   pub idle-out : (j v : ℕ) → j < segments n F → v < n → X v ≡ 0 → bit v (running n S F j) ≡ 0

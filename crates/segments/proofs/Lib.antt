@@ -1,4 +1,3 @@
-pub mod Flags
 pub mod Sets
 pub mod Next
 pub mod Cuts
@@ -10,4 +9,3 @@ pub mod Shares
 pub mod Words
 pub mod Along
 pub mod Walk
-mod Worked

@@ -11,14 +11,13 @@ use borrow.Author.Tests.{le-leb, lt-leb}
 use Rattle.plain.specs.Pick.{one, upTo}
 use Rattle.plain.specs.Sums.{sumTo}
 use Rattle.plain.proofs.Lists.{lt-or-ge}
-use Rattle.plain.proofs.Sums.{upTo-is, sum-mono, sum-ones}
 use Rattle.sets.specs.Member.{bit, Member}
 use Rattle.sets.proofs.Bits.{bit-zero, bit-and, not-mem, bit-not}
 use Rattle.sets.proofs.Sizes.{size-full, size-less, size-none}
-use Rattle.sets.proofs.Rule.{bit-past, bit-set, set-lt, Collected}
+use Rattle.sets.proofs.Rule.{bit-set, Collected}
 use Rattle.segments.specs.Cut.{cut, segments}
-use Rattle.segments.specs.Running.{runs, runningIn, runningFrom, running, threads}
-use Rattle.segments.proofs.Flags.{upTo-yes, upTo-no, upTo-flag}
+use Rattle.segments.specs.Running.{runs, runningIn, running, threads}
+use Rattle.plain.proofs.Flags.{upTo-is, upTo-yes, upTo-no, upTo-flag}
 use Rattle.segments.proofs.Sets.{set-same, collected-set, set-word, size-set}
 use Rattle.segments.proofs.Cuts.{gap}
 use Rattle.segments.proofs.Segments.{segment-up}
@@ -37,17 +36,9 @@ runs-late f b {s} {a} h = ap (λ (x : Bool). one (x && leb b f)) (lt-leb s a h)
 pub runs-early : (s a : ℕ) {f b : ℕ} → f < b → runs s f a b ≡ 0
 runs-early s a {f} {b} h = ⊎-elim (λ (l : a < s). runs-late f b l) (λ (l : s ≤ a). runs-started f b l ∙ upTo-no h) (lt-or-ge a s)
 
--- where the test holds, and only there
+-- where the test holds
 pub runs-yes : {s f a b : ℕ} → s ≤ a → b ≤ f → runs s f a b ≡ 1
 runs-yes {s} {f} {a} {b} h k = runs-started f b h ∙ upTo-yes k
-
-pub runs-only : (s f a b : ℕ) → runs s f a b ≡ 1 → (s ≤ a) × (b ≤ f)
-runs-only s f a b e = go (lt-or-ge a s) (lt-or-ge f b)
-  where
-    go : (a < s) ⊎ (s ≤ a) → (f < b) ⊎ (b ≤ f) → (s ≤ a) × (b ≤ f)
-    go (inl h) z = absurd (not-mem (runs-late f b h) e)
-    go (inr h) (inl k) = absurd (not-mem (runs-early s a k) e)
-    go (inr h) (inr k) = (h, k)
 
 -- it says 0 or 1
 pub runs-flag : (s f a b : ℕ) → runs s f a b ≤ 1
@@ -63,6 +54,10 @@ runs-left s f t = ⊎-elim
     (λ (h : s ≤ t). runs-started f (suc t) h ∙ (let y = upTo-yes h in let z = upTo-is f t in let u = upTo-is (suc t) f in omega arith))
     (lt-or-ge t s)
 
+-- the set of the nodes that run on from t: times are whole numbers, so through all of t..t + 1
+abbrev pub runningFrom : (n : ℕ) (S F : ℕ → ℕ) (t : ℕ) → ℕ
+runningFrom n S F t = runningIn n S F t (suc t)
+
 module _ (n : ℕ) (S F : ℕ → ℕ) where
   -- the node's test in segment j
   abbrev runner : (j v : ℕ) → ℕ
@@ -71,35 +66,21 @@ module _ (n : ℕ) (S F : ℕ → ℕ) where
   flag : (j v : ℕ) → runner j v ≤ 1
   flag j v = runs-flag (S v) (F v) (cut n F j) (cut n F (suc j))
 
-  -- a node's digit in the running set is its test; there is no digit from n on
+  -- a node's digit in the running set is its test
   pub bit-running : (j v : ℕ) → v < n → bit v (running n S F j) ≡ runs (S v) (F v) (cut n F j) (cut n F (suc j))
   unfolding running runningIn
   bit-running j v h = bit-set (runner j) (flag j) n v h
 
-  pub running-past : (j v : ℕ) → n ≤ v → bit v (running n S F j) ≡ 0
-  unfolding running runningIn
-  running-past j v h = bit-past (runner j) (flag j) n v h
-
-  pub running-lt : (j : ℕ) → running n S F j < 2 ^ n
-  unfolding running runningIn
-  running-lt j = set-lt (runner j) (flag j) n
-
-  -- v is in the set exactly where it has started by the segment's begin and does not finish before its end
+  -- v is in the set where it has started by the segment's begin and does not finish before its end
   pub run-in : (j v : ℕ) → v < n → S v ≤ cut n F j → cut n F (suc j) ≤ F v → Member v (running n S F j)
   run-in j v h a b = bit-running j v h ∙ runs-yes a b
-
-  pub run-out : (j v : ℕ) → v < n → Member v (running n S F j) → (S v ≤ cut n F j) × (cut n F (suc j) ≤ F v)
-  run-out j v h m = runs-only (S v) (F v) (cut n F j) (cut n F (suc j)) (sym (bit-running j v h) ∙ m)
 
   -- the threads are the number of nodes that run there
   pub threads-is : n ≤ 64 → (j : ℕ) → threads n S F j ≡ sumTo n (λ v. runs (S v) (F v) (cut n F j) (cut n F (suc j)))
   unfolding threads running runningIn
   threads-is few j = size-set (runner j) (flag j) n few
 
-  -- at most n, and at most the digits of a word
-  pub threads-le : n ≤ 64 → (j : ℕ) → threads n S F j ≤ n
-  threads-le few j = let a = threads-is few j in let b = sum-mono n (runner j) (λ v. 1) (λ v h. flag j v) in let c = sum-ones n in omega arith
-
+  -- at most the digits of a word
   pub threads-word : (j : ℕ) → threads n S F j ≤ 64
   unfolding threads
   threads-word j = size-full 64 (running n S F j)

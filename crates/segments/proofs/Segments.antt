@@ -9,7 +9,7 @@ use Rattle.plain.specs.Pick.{upTo}
 use Rattle.plain.specs.Sums.{sumTo}
 use Rattle.plain.proofs.Lists.{lt-or-ge}
 use Rattle.segments.specs.Cut.{latest, cut, segments, lengthOf}
-use Rattle.segments.proofs.Flags.{upTo-yes, upTo-no}
+use Rattle.plain.proofs.Flags.{upTo-yes, upTo-no}
 use Rattle.segments.proofs.Cuts.{Mark, cut-none, finish-le, cut-le, cut-up, cut-step, cut-mono, gap, cut-last}
 
 module _ (n : ℕ) (F : ℕ → ℕ) where
@@ -103,10 +103,6 @@ module _ (n : ℕ) (F : ℕ → ℕ) where
   -- "length e_j > 0"
   pub lengthOf-pos : (j : ℕ) → j < segments n F → 0 < lengthOf n F j
   lengthOf-pos j h = let a = segment-up j h in let b = lengthOf-cuts j in omega arith
-
-  -- no segment is longer than the path
-  pub lengthOf-le : (j : ℕ) → lengthOf n F j ≤ latest n F
-  lengthOf-le j = let a = lengthOf-cuts j in let b = cut-le n F (suc j) in omega arith
 
   -- the first k lengths sum to cut k
   pub lengths-to : (k : ℕ) → sumTo k (lengthOf n F) ≡ cut n F k

@@ -3,20 +3,22 @@
 use mathlib.Core.Path.{_≡_, sym, ap, _∙_}
 use mathlib.Core.Logic.{_⊎_, inl, inr, ⊎-elim}
 use Prim.Native.Nat.{ℕ, zero, suc, _+_, _*_, _≤_, _<_, suc-le-suc, min}
-use native.Mathlib.Nat.{le-trans, add-mul, mul-assoc, mul-le-mul-left, mul-le-mul-right, one-mul}
+use native.Mathlib.Nat.{le-trans, add-mul, mul-assoc, mul-le-mul-left, mul-le-mul-right}
 use native.Mathlib.Omega.{arith}
 use Rattle.plain.specs.Pick.{upTo}
 use Rattle.plain.specs.Sums.{sumTo}
 use Rattle.plain.proofs.Lists.{lt-or-ge}
-use Rattle.plain.proofs.Sums.{upTo-is, sum-same, sum-mono, sum-zero, sum-add, sum-mul, sum-swap}
-use Rattle.sets.specs.Member.{bit}
-use Rattle.segments.specs.Cut.{cut, latest, segments, lengthOf}
+use Rattle.plain.proofs.Sums.{sum-same, sum-mono, sum-zero, sum-add, sum-mul, sum-swap}
+use Rattle.sets.specs.Member.{bit, Member}
+use Rattle.sets.proofs.Bits.{mem-or}
+use Rattle.segments.specs.Cut.{cut, segments, lengthOf}
 use Rattle.segments.specs.Running.{runs, running, threads}
-use Rattle.segments.specs.Diagram.{Diagram}
-use Rattle.segments.specs.Share.{share, by}
-use Rattle.segments.proofs.Flags.{upTo-yes, upTo-no, upTo-flag, times-one, times-zero, times-flag}
-use Rattle.segments.proofs.Cuts.{Mark, gap, cut-none, cut-le}
-use Rattle.segments.proofs.Segments.{cut-end, segment-up, lengthOf-cuts, lengthOf-le, mark-le}
+use Rattle.segments.specs.Inner.Diagram.{Diagram}
+use Rattle.segments.specs.Share.{share}
+use Rattle.segments.specs.Inner.By.{by}
+use Rattle.plain.proofs.Flags.{upTo-is, upTo-yes, upTo-no, upTo-flag, times-one, times-zero, times-flag}
+use Rattle.segments.proofs.Cuts.{Mark, gap, cut-none}
+use Rattle.segments.proofs.Segments.{cut-end, segment-up, lengthOf-cuts, mark-le}
 use Rattle.segments.proofs.Running.{bit-running, runs-started, runs-late, threads-is}
 use Rattle.segments.proofs.Diagram.{start-mark, finish-mark}
 
@@ -31,20 +33,10 @@ module _ (n : ℕ) (F f : ℕ → ℕ) where
   unfolding by
   by-zero = sum-same (segments n F) _ (λ j. 0) (λ j l. times-zero (f j) (upTo-no (let u = segment-up n F j l in omega arith))) ∙ sum-zero (segments n F)
 
-  -- to the whole sum at the path
-  pub by-path : by n F f (latest n F) ≡ sumTo (segments n F) f
-  unfolding by
-  by-path = sum-same (segments n F) _ f (λ j l. times-one (f j) (upTo-yes (cut-le n F (suc j))))
-
-  -- and is never more
+  -- up to at most the whole sum
   pub by-le : (t : ℕ) → by n F f t ≤ sumTo (segments n F) f
   unfolding by
   by-le t = sum-mono (segments n F) _ f (λ j l. times-flag (f j) (upTo-flag (cut n F (suc j)) t))
-
--- D hangs on what the segments are given, and on nothing past them
-pub by-same : (n : ℕ) (F f g : ℕ → ℕ) → ((j : ℕ) → j < segments n F → f j ≡ g j) → (t : ℕ) → by n F f t ≡ by n F g t
-unfolding by
-by-same n F f g e t = sum-same (segments n F) _ _ (λ j l. ap (λ (x : ℕ). upTo (cut n F (suc j)) t * x) (e j l))
 
 module _ (n : ℕ) (F : ℕ → ℕ) {t : ℕ} (m : Mark n F t) where
   -- of the first k segments, those that end by a finish are as long as it is late
@@ -62,10 +54,13 @@ module _ (n : ℕ) (F : ℕ → ℕ) {t : ℕ} (m : Mark n F t) where
   by-lengths = length-by (segments n F) ∙ (let a = cut-end n F in let b = mark-le n F m in omega arith)
 
 module _ (n : ℕ) (S F : ℕ → ℕ) where
-  -- a share hangs on what the segments are given, and on nothing past them
-  pub share-same : (f g : ℕ → ℕ) → ((j : ℕ) → j < segments n F → f j ≡ g j) → (v : ℕ) → share n S F f v ≡ share n S F g v
+  -- a share hangs on what is given to the segments that the node runs in
+  pub share-same : (f g : ℕ → ℕ) (v : ℕ) → ((j : ℕ) → j < segments n F → Member v (running n S F j) → f j ≡ g j) → share n S F f v ≡ share n S F g v
   unfolding share
-  share-same f g e v = sum-same (segments n F) _ _ (λ j l. ap (λ (x : ℕ). bit v (running n S F j) * x) (e j l))
+  share-same f g v e = sum-same (segments n F) _ _ (λ j l. ⊎-elim
+      (λ (m : Member v (running n S F j)). ap (λ (x : ℕ). bit v (running n S F j) * x) (e j l m))
+      (λ (z : bit v (running n S F j) ≡ 0). times-zero (f j) z ∙ sym (times-zero (g j) z))
+      (mem-or v (running n S F j)))
 
   -- a node gets no less where each segment is given no less
   pub share-mono : (f g : ℕ → ℕ) → ((j : ℕ) → j < segments n F → f j ≤ g j) → (v : ℕ) → share n S F f v ≤ share n S F g v
@@ -134,24 +129,10 @@ module _ {n : ℕ} {S F X : ℕ → ℕ} (d : Diagram n S F X) where
         let e = ap (λ (x : ℕ). x * Q) (share-lengths v l) in
         omega arith
 
-    -- above 0, where each segment's is
-    pub share-pos : ((j : ℕ) → j < segments n F → 0 < f j) → (v : ℕ) → v < n → 0 < X v → 0 < share n S F f v
-    share-pos h v l p = ⊎-elim (λ (z : share n S F f v < 1). absurd (none z)) (λ (z : 1 ≤ share n S F f v). z) (lt-or-ge (share n S F f v) 1)
-      where
-        covers : (j : ℕ) → j < segments n F → lengthOf n F j ≤ f j * latest n F
-        covers j k =
-            let x = lengthOf-le n F j in
-            let y = mul-le-mul-right (latest n F) (h j k) in
-            let w = one-mul (latest n F) in
-            omega arith
-
-        none : share n S F f v < 1 → ⊥
-        none z =
-            let a = share-mono n S F (lengthOf n F) (λ j. f j * latest n F) covers v in
-            let b = share-scale n S F f (latest n F) v in
-            let c = share-lengths v l in
-            let e = times-zero (latest n F) (nought z) in
-            omega arith
-          where
-            nought : {x : ℕ} → x < 1 → x ≡ 0
-            nought q = omega arith
+    -- and just half, where each segment that it runs in gets just half of its length
+    pub share-halved : (Q v : ℕ) → v < n → ((j : ℕ) → j < segments n F → Member v (running n S F j) → lengthOf n F j * Q ≡ f j * 2) → X v * Q ≡ share n S F f v * 2
+    share-halved Q v l h =
+        ap (λ (x : ℕ). x * Q) (sym (share-lengths v l))
+        ∙ sym (share-scale n S F (lengthOf n F) Q v)
+        ∙ share-same n S F (λ j. lengthOf n F j * Q) (λ j. f j * 2) v h
+        ∙ share-scale n S F f 2 v

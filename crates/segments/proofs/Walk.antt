@@ -9,15 +9,15 @@ use native.Mathlib.Omega.{arith}
 use lib.Bits.{bitAnd}
 use Rattle.plain.specs.At.{at}
 use Rattle.plain.proofs.Sums.{maxTo-le}
-use Rattle.lineups.specs.LinedUp.{LinedUp}
+use Rattle.lineups.specs.Inner.LinedUp.{LinedUp}
 use Rattle.sets.specs.Size.{size}
 use Rattle.segments.specs.Cut.{nextTo, cut, latest, segments, lengthOf}
-use Rattle.segments.specs.Running.{runningFrom, threads}
-use Rattle.segments.specs.Along.{ReachedBy}
+use Rattle.segments.specs.Running.{threads}
+use Rattle.segments.specs.Inner.Along.{ReachedBy}
 use Rattle.segments.proofs.Next.{next-gt, next-least, next-is}
 use Rattle.segments.proofs.Cuts.{cut-more, finish-le}
 use Rattle.segments.proofs.Segments.{segments-le, segment-before, before-segment}
-use Rattle.segments.proofs.Running.{running-from, running-left}
+use Rattle.segments.proofs.Running.{runningFrom, running-from, running-left}
 use Rattle.segments.proofs.Along.{reached-set, next-first, none-ahead}
 
 -- what a turn that goes from t to `to` knows of segment j, where `set` is who runs on from t

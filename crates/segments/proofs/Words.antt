@@ -1,19 +1,16 @@
--- The words of the segments: each turn of the walk stores into two words that no other turn touches; and every word is in the head, in a
--- segment's triple or past the segments, so what the record says of each leaves one list.
-use mathlib.Core.Path.{_≡_, refl, sym, _∙_}
-use mathlib.Core.Logic.{_⊎_, inl, inr}
+-- The words of the segments: each turn of the walk stores into two words that no other turn touches.
+use mathlib.Core.Path.{_≡_, refl, _∙_}
 use mathlib.Core.List.{List}
-use Prim.Native.Nat.{ℕ, _+_, _-_, _*_, _/_, _%_, _≤_, _<_}
+use Prim.Native.Nat.{ℕ, _+_, _*_, _<_}
 use native.Mathlib.Nat.{not-suc-le-zero}
 use native.Mathlib.Omega.{arith}
 use lib.ListN.{length, set, length-set}
-use lib.Seq.{getD-set-same, getD-set-other, ext-getD}
+use lib.Seq.{getD-set-same, getD-set-other}
 use borrow.Author.Count.{below-more}
 use Rattle.plain.specs.At.{at}
-use Rattle.plain.proofs.Lists.{lt-or-ge}
 use Rattle.segments.specs.Cut.{lengthOf}
 use Rattle.segments.specs.Running.{threads}
-use Rattle.segments.specs.Words.{CutWords}
+use Rattle.segments.specs.Inner.Words.{CutWords}
 
 module _ (n : ℕ) (S F : ℕ → ℕ) where
   -- before the first turn
@@ -56,33 +53,3 @@ module _ (n : ℕ) (S F : ℕ → ℕ) where
 
       next : at w₂ (4 + 3 * s) ≡ b
       next = let e : 4 + 3 * s ≡ 3 + 3 * s + 1 = omega arith in rw e (getD-set-same w₁ (3 + 3 * s + 1) b 0 (let l = length-set w (3 + 3 * s) a in omega arith))
-
--- a word's place: in the head, past s segments, or one of the three of segment j
-pub data Place (s k : ℕ) : Type 0 where
-  head : k < 3 → Place s k
-  first : (j : ℕ) → j < s → k ≡ 3 + 3 * j → Place s k
-  second : (j : ℕ) → j < s → k ≡ 4 + 3 * j → Place s k
-  third : (j : ℕ) → j < s → k ≡ 5 + 3 * j → Place s k
-  rest : 3 + 3 * s ≤ k → Place s k
-
--- every word has a place
-pub place : (s k : ℕ) → Place s k
-place s k = go (lt-or-ge k 3) (lt-or-ge k (3 + 3 * s)) (lt-or-ge ((k - 3) % 3) 1) (lt-or-ge ((k - 3) % 3) 2)
-  where
-    go : (k < 3) ⊎ (3 ≤ k) → (k < 3 + 3 * s) ⊎ (3 + 3 * s ≤ k) → ((k - 3) % 3 < 1) ⊎ (1 ≤ (k - 3) % 3) → ((k - 3) % 3 < 2) ⊎ (2 ≤ (k - 3) % 3) → Place s k
-    go (inl h) b c d = head h
-    go (inr a) (inr h) c d = rest h
-    go (inr a) (inl b) (inl c) d = first ((k - 3) / 3) (omega arith) (omega arith)
-    go (inr a) (inl b) (inr c) (inl d) = second ((k - 3) / 3) (omega arith) (omega arith)
-    go (inr a) (inl b) (inr c) (inr d) = third ((k - 3) / 3) (omega arith) (omega arith)
-
--- the record leaves one answer
-pub words-one : {n : ℕ} {S F : ℕ → ℕ} {s : ℕ} {w₀ w x : List ℕ} → CutWords n S F s w₀ w → CutWords n S F s w₀ x → w ≡ x
-words-one {n} {S} {F} {s} {w₀} {w} {x} a b = ext-getD 0 w x (a .room ∙ sym (b .room)) (λ k h. same k (place s k))
-  where
-    same : (k : ℕ) → Place s k → at w k ≡ at x k
-    same k (head h) = a .head k h ∙ sym (b .head k h)
-    same k (first j h e) = rw e (a .first j h ∙ sym (b .first j h))
-    same k (second j h e) = rw e (a .second j h ∙ sym (b .second j h))
-    same k (third j h e) = rw e (a .third j ∙ sym (b .third j))
-    same k (rest h) = a .rest k h ∙ sym (b .rest k h)

@@ -1,8 +1,5 @@
 pub mod Cut
 pub mod Running
-pub mod Diagram
 pub mod Cutting
 pub mod Share
-pub mod Words
-pub mod Along
-pub mod Room
+pub mod Inner

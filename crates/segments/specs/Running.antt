@@ -15,10 +15,6 @@ runs s f a b = one (leb s a && leb b f)
 unfoldable pub runningIn : (n : ℕ) (S F : ℕ → ℕ) (a b : ℕ) → ℕ
 runningIn n S F a b = setOf n (λ v. runs (S v) (F v) a b)
 
--- the set of the nodes that run on from t: times are whole numbers, so through all of t..t + 1
-abbrev pub runningFrom : (n : ℕ) (S F : ℕ → ℕ) (t : ℕ) → ℕ
-runningFrom n S F t = runningIn n S F t (suc t)
-
 -- "the set of nodes running there": through all of segment j
 unfoldable pub running : (n : ℕ) (S F : ℕ → ℕ) (j : ℕ) → ℕ
 running n S F j = runningIn n S F (cut n F j) (cut n F (suc j))

@@ -3,11 +3,11 @@ ghost use mathlib.Core.Path.{_≡_};
 ghost use Prim.Native.Nat.{_≤_};
 ghost use lib.ListN.{length};
 ghost use Rattle.plain.specs.At.{at};
-ghost use Rattle.lineups.specs.LinedUp.{LinedUp};
+ghost use Rattle.lineups.specs.Inner.LinedUp.{LinedUp};
 ghost use Rattle.segments.specs.Cut.{segments};
-ghost use Rattle.segments.specs.Words.{CutWords};
-ghost use Rattle.segments.specs.Along.{Behind, ReachedBy};
-ghost use Rattle.segments.specs.Room.{CutIn};
+ghost use Rattle.segments.specs.Inner.Words.{CutWords};
+ghost use Rattle.segments.specs.Inner.Along.{Behind, ReachedBy};
+ghost use Rattle.segments.specs.Inner.Room.{CutIn};
 
 // How far a walk along a lineup has come: the number of entries behind it, and the set of their nodes.
 pub struct Reach {

@@ -3,7 +3,7 @@ use mathlib.Core.Path.{_≡_, refl, sym, ap, _∙_}
 use mathlib.Core.Logic.{_⊎_, inl, inr, ⊎-elim}
 use mathlib.Core.Bool.{Bool, true, false}
 use Prim.Native.Nat.{ℕ, zero, suc, _+_, _-_, _*_, _/_, _%_, _^_, _≤_, _<_, zero-le, suc-le-suc, min, max}
-use native.Mathlib.Nat.{pow-suc, div-div-eq-div-mul, mul-comm, le-of-suc-le-suc, not-suc-le-zero, div-one, one-mul, zero-add, le-refl, eq-or-lt-of-le}
+use native.Mathlib.Nat.{pow-suc, div-div-eq-div-mul, mul-comm, le-of-suc-le-suc, not-suc-le-zero, div-one, one-mul, zero-add}
 use native.Mathlib.Omega.{arith}
 use native.Mathlib.Decide.{ℕ-discrete}
 use lib.Bits.{bitAnd, bitOr, and-step, or-step, and-self}
@@ -12,7 +12,8 @@ use lib.Arith.{bin-ind}
 use lib.Dec.{eqb, lit<}
 use borrow.Author.Tests.{eqb-true, eqb-false}
 use Rattle.plain.specs.Pick.{pick}
-use Rattle.sets.specs.Member.{bit, Member, isMember, withMember}
+use Rattle.sets.specs.Member.{bit, Member, isMember}
+use Rattle.sets.specs.Inner.Put.{withMember}
 
 pub bit-le : (k s : ℕ) → bit k s ≤ 1
 unfolding bit
@@ -153,18 +154,6 @@ mem-lt (suc d) (suc k) s h m = suc-le-suc (mem-lt d k (s / 2) half m)
     half : s / 2 < 2 ^ d
     half = let h3 = h2 in omega arith
 
--- a set with no member is 0
-pub none-zero : (d s : ℕ) → s < 2 ^ d → ((k : ℕ) → k < d → bit k s ≡ 0) → s ≡ 0
-unfolding bit
-none-zero zero s h f = omega arith
-none-zero (suc d) s h f = go (none-zero d (s / 2)) (f 0 (suc-le-suc zero-le))
-  where
-    h2 : s < 2 ^ d * 2
-    h2 = rw (pow-suc 2 d) at h
-
-    go : (s / 2 < 2 ^ d → ((k : ℕ) → k < d → bit k (s / 2) ≡ 0) → s / 2 ≡ 0) → s % 2 ≡ 0 → s ≡ 0
-    go ih z = let h3 = h2 in let q = ih (omega arith) (λ k l. f (suc k) (suc-le-suc l)) in omega arith
-
 -- two numbers with the same digits are one
 half-eq : (a b : ℕ) → a / 2 ≡ b / 2 → a % 2 ≡ b % 2 → a ≡ b
 half-eq a b p q = omega arith
@@ -204,23 +193,6 @@ put-other s v k n = let a = bit-or k s (2 ^ v) in let b = bit-pow-other v k n in
 pub put-same : (s v : ℕ) → Member v (bitOr s (2 ^ v))
 put-same s v = mem-or-r v s (2 ^ v) (bit-pow-same v)
 
--- within, by `and`
-pub and-sub : (a b : ℕ) → bitAnd a b ≡ a → (k : ℕ) → Member k a → Member k b
-and-sub a b e k m =
-    let x = bit-and k a b in
-    let y = ap (bit k) e in
-    let z = bit-le k b in
-    omega arith
-
-pub sub-and : (a b : ℕ) → ((k : ℕ) → Member k a → Member k b) → bitAnd a b ≡ a
-sub-and a b f = same-bits (bitAnd a b) a (λ k. go k (bit-le k a) (bit-le k b))
-  where
-    go : (k : ℕ) → bit k a ≤ 1 → bit k b ≤ 1 → bit k (bitAnd a b) ≡ bit k a
-    go k la lb = elim (ℕ-discrete (bit k a) 1) [
-      | yes m ↦ (let n = f k m in bit-and k a b ∙ omega arith)
-      | no n ↦ (let x = bit-and k a b in omega arith)
-    ]
-
 -- `1 << k`
 pub one-shl : (k : ℕ) → k < 64 → 1 * 2 ^ k % 2 ^ 64 ≡ 2 ^ k
 one-shl k h = shl-exact 1 k 64 (lit< tt) (omega arith) ∙ one-mul (2 ^ k)
@@ -231,21 +203,6 @@ has-in k s e = eqb-true (bit k s) 1 e
 
 pub has-out : (k s : ℕ) → isMember k s ≡ false → bit k s ≡ 0
 has-out k s e = let n = eqb-false (bit k s) 1 e in let l = bit-le k s in omega arith
-
--- a member of a that is none of b, below d, or none
-pub stray : (d a b : ℕ) → ((k : ℕ) × (k < d) × (Member k a) × (bit k b ≡ 0)) ⊎ ((k : ℕ) → k < d → Member k a → Member k b)
-stray zero a b = inr (λ k l m. absurd (not-suc-le-zero l))
-stray (suc d) a b = go (stray d a b) (mem-or d a) (mem-or d b)
-  where
-    up : ((k : ℕ) → k < d → Member k a → Member k b) → (Member d a → Member d b) → (k : ℕ) → k < suc d → Member k a → Member k b
-    up f g k l m = ⊎-elim (λ (e : k ≡ d). ap (λ (x : ℕ). bit x b) e ∙ g (ap (λ (x : ℕ). bit x a) (sym e) ∙ m)) (λ (lt : k < d). f k lt m) (eq-or-lt-of-le (le-of-suc-le-suc l))
-
-    go : ((k : ℕ) × (k < d) × (Member k a) × (bit k b ≡ 0)) ⊎ ((k : ℕ) → k < d → Member k a → Member k b) → (Member d a) ⊎ (bit d a ≡ 0) → (Member d b) ⊎ (bit d b ≡ 0)
-        → ((k : ℕ) × (k < suc d) × (Member k a) × (bit k b ≡ 0)) ⊎ ((k : ℕ) → k < suc d → Member k a → Member k b)
-    go (inl w) x y = inl (w .0, omega arith, w .2, w .3)
-    go (inr f) (inl m) (inr z) = inl (d, le-refl (suc d), m, z)
-    go (inr f) (inl m) (inl n) = inr (up f (λ q. n))
-    go (inr f) (inr z) y = inr (up f (λ q. absurd (not-mem z q)))
 
 -- putting a member in is `s | (1 << k)`, whether or not it was there
 pub with-or : (k s : ℕ) → withMember k s ≡ bitOr s (2 ^ k)

@@ -1,7 +1,7 @@
 -- A set by a rule: its digits are what the rule says, because each number below n is put in once or not at all.
 use mathlib.Core.Path.{_≡_, refl, sym, ap, ap₂, _∙_}
 use mathlib.Core.Logic.{_⊎_, inl, inr, ⊎-elim}
-use Prim.Native.Nat.{ℕ, zero, suc, _+_, _-_, _*_, _^_, _≤_, _<_}
+use Prim.Native.Nat.{ℕ, zero, suc, _+_, _*_, _^_, _≤_, _<_}
 use native.Mathlib.Nat.{pow-suc, le-of-suc-le-suc, not-suc-le-zero, eq-or-lt-of-le, le-refl, one-mul, zero-mul}
 use native.Mathlib.Omega.{arith}
 use lib.Count.{ones}

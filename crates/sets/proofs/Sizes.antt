@@ -1,7 +1,7 @@
 -- Sizes of sets: a size is a sum of digits, so it grows with each member put in and is smaller where one is missing.
 use mathlib.Core.Path.{_≡_, refl, sym, ap, ap₂, _∙_}
 use mathlib.Core.Logic.{_⊎_, inl, inr, ⊎-elim}
-use Prim.Native.Nat.{ℕ, zero, suc, _+_, _-_, _*_, _/_, _%_, _^_, _≤_, _<_, zero-le}
+use Prim.Native.Nat.{ℕ, zero, suc, _+_, _*_, _/_, _%_, _^_, _≤_, _<_, zero-le}
 use native.Mathlib.Nat.{pow-suc, le-of-suc-le-suc, not-suc-le-zero, le-refl, eq-or-lt-of-le}
 use native.Mathlib.Omega.{arith}
 use native.Mathlib.Decide.{ℕ-discrete}
@@ -10,7 +10,8 @@ use lib.Count.{ones, onesIn, ones-step}
 use lib.ListN.{length, length-append}
 use Rattle.plain.specs.Sums.{sumTo}
 use Rattle.sets.specs.Member.{bit, Member}
-use Rattle.sets.specs.Size.{sizeTo, only, members}
+use Rattle.sets.specs.Size.{sizeTo}
+use Rattle.sets.specs.Inner.Members.{only, members}
 use Rattle.sets.proofs.Bits.{bit-le, bit-zero, mem-or, put-other, put-same}
 
 size-step : (d s : ℕ) → sizeTo (suc d) s ≡ s % 2 + sizeTo d (s / 2)

@@ -8,7 +8,7 @@ use native.Mathlib.Omega.{arith}
 use lib.Bits.{bitAnd, and-le-r}
 use lib.Count.{trailingZeros, under}
 use Rattle.sets.specs.Member.{bit, Member}
-use Rattle.sets.specs.Size.{only, members}
+use Rattle.sets.specs.Inner.Members.{only, members}
 use Rattle.sets.specs.Greatest.{greatest}
 use Rattle.sets.proofs.Bits.{bit-le, bit-out-same, bit-out-other, not-mem, low-clear}
 use Rattle.sets.proofs.Greatest.{greatest-out}

@@ -2,3 +2,4 @@ pub mod Member
 pub mod Size
 pub mod Greatest
 pub mod Rule
+pub mod Inner

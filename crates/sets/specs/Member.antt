@@ -1,9 +1,8 @@
 -- "a set being one 64-bit word": which numbers are its members.
 use mathlib.Core.Path.{_≡_}
 use mathlib.Core.Bool.{Bool}
-use Prim.Native.Nat.{ℕ, zero, suc, _+_, _/_, _%_, _^_}
+use Prim.Native.Nat.{ℕ, zero, suc, _/_, _%_}
 use lib.Dec.{eqb}
-use Rattle.plain.specs.Pick.{pick}
 
 -- the binary digit of the word s at place k, 0 or 1
 unfoldable pub bit : ℕ → ℕ → ℕ
@@ -17,11 +16,3 @@ Member k s = bit k s ≡ 1
 -- the same as a test
 abbrev pub isMember : ℕ → ℕ → Bool
 isMember k s = eqb (bit k s) 1
-
--- every member of a is one of b
-abbrev pub Subset : ℕ → ℕ → Type 0
-Subset a b = (k : ℕ) → Member k a → Member k b
-
--- the set s with k put in
-unfoldable pub withMember : ℕ → ℕ → ℕ
-withMember k s = pick (isMember k s) s (s + 2 ^ k)

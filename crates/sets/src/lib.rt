@@ -1,9 +1,9 @@
 // A set of nodes in one 64-bit word.
 ghost use mathlib.Core.Path.{_≡_};
 ghost use Prim.Native.Nat.{_<_};
-ghost use mathlib.Core.Bool.{true};
 ghost use Rattle.plain.specs.At.{at};
-ghost use Rattle.sets.specs.Member.{isMember, withMember, Subset};
+ghost use Rattle.sets.specs.Member.{isMember};
+ghost use Rattle.sets.specs.Inner.Put.{withMember};
 ghost use Rattle.sets.specs.Size.{size};
 ghost use Rattle.sets.specs.Greatest.{greatest};
 
@@ -28,14 +28,6 @@ pub fn size_of(s: u64) -> u64
     ensures { λ r. ⌜ r ≡ size s ⌝ }
 {
     u64::count_ones(s) as u64
-}
-
-// Whether each member of a is one of b.
-pub fn is_subset(a: u64, b: u64) -> bool
-    ensures holds { λ r. ⌜ (r ≡ true → Subset a b) ⌝ }
-    ensures told { λ r. ⌜ (Subset a b → r ≡ true) ⌝ }
-{
-    a & b == a
 }
 
 // The greatest of the values at the members of s, 0 where s is empty. The members are walked by trailing zeros.

@@ -11,10 +11,14 @@ use Rattle.plain.specs.Sums.{sumTo}
 use Rattle.plain.proofs.Sums.{sum-same, sum-add, sum-mul}
 use Rattle.shares.specs.declared.Deal.{Deal}
 use Rattle.shares.specs.Heavy.{isHeavy, heavies, heavyWork, lightLength}
-use Rattle.shares.specs.Deal.{allHeavy, allLight, bothKinds, deal, numerator, numeratorOf}
-use Rattle.shares.specs.Cutting.{Cutting}
+use Rattle.shares.specs.Deal.{allHeavy, allLight, bothKinds, deal, numerator}
+use Rattle.shares.specs.Inner.Segmented.{Segmented}
 use Rattle.shares.proofs.Products.{sort}
 use Rattle.shares.proofs.Heavies.{each-heavy, each-light, some-heavy}
+
+-- the deadline numerator that segment j of a task is dealt
+abbrev pub dealtTo : (T C P s : ℕ) (m e : ℕ → ℕ) (j : ℕ) → ℕ
+dealtTo T C P s m e j = numerator (deal T C P s m e) T C P (m j) (e j)
 
 -- a segment's numerator by its kind
 pub numerator-heavy : (d : Deal) (T C P m e : ℕ) → isHeavy T C P m ≡ true → numerator d T C P m e ≡ d .heavy * m * e
@@ -49,9 +53,9 @@ deal-same T C P s m e m′ e′ p q =
       sum-same s (λ j. pick (isHeavy T C P (m j)) 0 (e j)) (λ j. pick (isHeavy T C P (m′ j)) 0 (e′ j)) (λ j l. rw (p j l, q j l)),
     )
 
--- equal threads and lengths, equal cutting, and equal numerators
-pub cutting-same : {T C P s : ℕ} {m e : ℕ → ℕ} (m′ e′ : ℕ → ℕ) → ((j : ℕ) → j < s → m j ≡ m′ j) → ((j : ℕ) → j < s → e j ≡ e′ j) → Cutting T C P s m e → Cutting T C P s m′ e′
-cutting-same {s = s} m′ e′ p q cut =
+-- and what the cut of a task gives holds of them too
+pub segmented-same : {T C P s : ℕ} {m e : ℕ → ℕ} (m′ e′ : ℕ → ℕ) → ((j : ℕ) → j < s → m j ≡ m′ j) → ((j : ℕ) → j < s → e j ≡ e′ j) → Segmented T C P s m e → Segmented T C P s m′ e′
+segmented-same {s = s} m′ e′ p q cut =
     record {
       path = cut .path ∙ sum-same s _ e′ q;
       work = cut .work ∙ sum-same s _ (λ j. m′ j * e′ j) (λ j l. rw (p j l, q j l));
@@ -61,16 +65,13 @@ cutting-same {s = s} m′ e′ p q cut =
       some = cut .some;
     }
 
-pub numerator-same : (T C P s : ℕ) (m e m′ e′ : ℕ → ℕ) → ((j : ℕ) → j < s → m j ≡ m′ j) → ((j : ℕ) → j < s → e j ≡ e′ j) → (j : ℕ) → j < s → numeratorOf T C P s m e j ≡ numeratorOf T C P s m′ e′ j
-numerator-same T C P s m e m′ e′ p q j l = rw (deal-same T C P s m e m′ e′ p q, p j l, q j l)
-
 -- which of the three deals it is, and what that says of the segments
 pub data Dealt (T C P s : ℕ) (m e : ℕ → ℕ) : Deal → Type 0 where
   heavy-all : ((j : ℕ) → j < s → isHeavy T C P (m j) ≡ true) → Dealt T C P s m e (allHeavy T C)
   light-all : ((j : ℕ) → j < s → isHeavy T C P (m j) ≡ false) → Dealt T C P s m e (allLight T P)
   both : 0 < heavyWork T C P s m e → Dealt T C P s m e (bothKinds T (heavyWork T C P s m e) (lightLength T C P s m e))
 
-pub dealt : {T C P s : ℕ} {m e : ℕ → ℕ} → Cutting T C P s m e → Dealt T C P s m e (deal T C P s m e)
+pub dealt : {T C P s : ℕ} {m e : ℕ → ℕ} → Segmented T C P s m e → Dealt T C P s m e (deal T C P s m e)
 unfolding deal
 dealt {T} {C} {P} {s} {m} {e} cut = go (eqb (heavies T C P s m) s) (eqb (heavies T C P s m) 0) refl refl
   where

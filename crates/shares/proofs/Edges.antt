@@ -9,9 +9,10 @@ use native.Mathlib.Decide.{le-ind}
 use native.Mathlib.Omega.{arith}
 use Rattle.plain.specs.Pick.{upTo}
 use Rattle.plain.specs.Sums.{sumTo}
+use Rattle.plain.proofs.Flags.{upTo-yes, upTo-no, times-one, times-zero}
 use Rattle.plain.proofs.Sums.{sumTo-none, sumTo-more, sum-same, sum-under}
-use Rattle.shares.specs.Words.{threadsAt, lengthAt, numeratorAt, edge, stretchedIn}
-use Rattle.shares.proofs.Sums.{upTo-yes, upTo-no, sum-stops}
+use Rattle.shares.specs.Inner.Words.{threadsAt, lengthAt, numeratorAt, edge, stretchedIn}
+use Rattle.shares.proofs.Sums.{sum-stops}
 
 -- the first edge, the next one, and how they go up
 pub edge-none : (w : List ℕ) → edge w 0 ≡ 0
@@ -39,20 +40,20 @@ module _ (w : List ℕ) (t : ℕ) where
 
   pub stretched-all : (s : ℕ) → edge w s ≤ t → stretchedIn w s t ≡ sumTo s (numeratorAt w)
   unfolding stretchedIn
-  stretched-all s h = sum-same s ended (numeratorAt w) (λ j l. upTo-yes (edge w (suc j)) t _ (omega (arith, edge-mono w (suc j) s l)))
+  stretched-all s h = sum-same s ended (numeratorAt w) (λ j l. times-one _ (upTo-yes (omega (arith, edge-mono w (suc j) s l))))
 
   pub stretched-past : (j s : ℕ) → j ≤ s → t < edge w (suc j) → stretchedIn w s t ≡ stretchedIn w j t
   unfolding stretchedIn
-  stretched-past j s h l = sum-stops ended j s h (λ k g. upTo-no (edge w (suc k)) t _ (omega (arith, edge-mono w (suc j) (suc k) (omega arith))))
+  stretched-past j s h l = sum-stops ended j s h (λ k g. times-zero _ (upTo-no (omega (arith, edge-mono w (suc j) (suc k) (omega arith)))))
 
 -- the words hold a cut of s segments with threads m, lengths e and numerators f
-pub record Holds (w : List ℕ) (s : ℕ) (m e f : ℕ → ℕ) : Type 0 where
+pub record HoldsSegments (w : List ℕ) (s : ℕ) (m e f : ℕ → ℕ) : Type 0 where
   pub threads : (j : ℕ) → j < s → threadsAt w j ≡ m j
   pub lengths : (j : ℕ) → j < s → lengthAt w j ≡ e j
   pub numerators : (j : ℕ) → j < s → numeratorAt w j ≡ f j
 
 -- then edges, whole and stretched time are those of the cut
-module _ {w : List ℕ} {s : ℕ} {m e f : ℕ → ℕ} (is : Holds w s m e f) where
+module _ {w : List ℕ} {s : ℕ} {m e f : ℕ → ℕ} (is : HoldsSegments w s m e f) where
   pub edge-is : (j : ℕ) → j ≤ s → edge w j ≡ sumTo j e
   unfolding edge
   edge-is j h = sum-same j (lengthAt w) e (λ k l. is .lengths k (omega arith))

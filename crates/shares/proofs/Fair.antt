@@ -1,57 +1,63 @@
 -- Every deal shares out the whole period, and no segment comes off badly. Which of the three deals it is settles each segment's kind or
 -- leaves some heavy work; from there every law is a line of arithmetic on m × (2T − P) against C.
-use mathlib.Core.Path.{_≡_, _∙_}
-use mathlib.Core.Bool.{true, false}
+use mathlib.Core.Path.{_≡_, sym, _∙_}
+use mathlib.Core.Bool.{true, false, false≢true}
 use Prim.Native.Nat.{ℕ, _+_, _*_, _-_, _≤_, _<_}
-use native.Mathlib.Nat.{mul-pos, mul-le-mul, mul-le-mul-left, mul-le-mul-right, le-trans}
+use native.Mathlib.Nat.{mul-le-mul, mul-le-mul-left, mul-le-mul-right, le-trans}
 use native.Mathlib.Omega.{arith}
 use Rattle.plain.specs.Sums.{sumTo}
-use Rattle.plain.proofs.Sums.{sum-mono, sum-mul, sum-under}
+use Rattle.plain.proofs.Sums.{sum-mono, sum-under}
 use Rattle.shares.specs.declared.Deal.{Deal}
 use Rattle.shares.specs.Heavy.{isHeavy, heavyWork, lightLength}
-use Rattle.shares.specs.Deal.{deal, numerator, numeratorOf}
-use Rattle.shares.specs.Cutting.{Cutting}
+use Rattle.shares.specs.Deal.{deal, numerator}
+use Rattle.shares.specs.Inner.Segmented.{Segmented}
 use Rattle.shares.proofs.Products.{sort, lifts, within, shared-out}
-use Rattle.shares.proofs.Heavies.{heavy-test, light-test, by-test, heavy-le, light-le, all-heavy, all-light}
-use Rattle.shares.proofs.Deals.{numerator-heavy, numerator-light, Dealt, heavy-all, light-all, both, dealt, sum-numerators}
+use Rattle.shares.proofs.Heavies.{heavy-test, light-test, by-test, heavy-le, light-le, each-heavy, each-light, all-heavy, all-light}
+use Rattle.shares.proofs.Deals.{dealtTo, numerator-heavy, numerator-light, deal-both, Dealt, heavy-all, light-all, both, dealt, sum-numerators}
 
--- what a segment's numerator n over Q keeps to: at least half its length, no denser than twice C / T, above 0
+-- what a segment's numerator n over Q keeps to: at least half its length, no denser than twice C / T
 pub record Fair (T C Q m e n : ℕ) : Type 0 where
   pub half : e * Q ≤ 2 * n
   pub thin : m * e * Q * T ≤ 2 * C * n
-  pub some : 0 < n
 
 -- the four ways to come by a numerator, on plain numbers
-module _ (T C P m e : ℕ) (fits : P ≤ T) (threaded : 0 < m) (long : 0 < e) where
-  fair-all-heavy : 0 < T → C < m * (2 * T - P) → Fair T C C m e (T * m * e)
-  fair-all-heavy p t =
+module _ (T C P m e : ℕ) (fits : P ≤ T) where
+  fair-all-heavy : C < m * (2 * T - P) → Fair T C C m e (T * m * e)
+  fair-all-heavy t =
       let q : m * (2 * T - P) ≤ m * (2 * T) = mul-le-mul-left m (omega arith) in
       let h = lifts (2 * T) m e C (omega arith) in
-      record { half = simp sort (simp sort at h); thin = simp sort (omega arith); some = mul-pos (mul-pos p threaded) long }
+      record { half = simp sort (simp sort at h); thin = simp sort (omega arith) }
 
-  fair-all-light : 0 < T → m * (2 * T - P) ≤ C → Fair T C P m e (e * T)
-  fair-all-light p t =
+  fair-all-light : m * (2 * T - P) ≤ C → Fair T C P m e (e * T)
+  fair-all-light t =
       let q : m * P ≤ C = le-trans (mul-le-mul-left m (omega arith)) t in
       let h = within C m e P T q in
-      record { half = omega (arith, mul-le-mul-left e fits); thin = simp sort (omega (arith, simp sort at h)); some = mul-pos long p }
+      record { half = omega (arith, mul-le-mul-left e fits); thin = simp sort (omega (arith, simp sort at h)) }
 
-  fair-heavy : (H L : ℕ) → L ≤ P → H ≤ C → 0 < T → C < m * (2 * T - P) → Fair T C (2 * H) m e ((2 * T - L) * m * e)
-  fair-heavy H L low hc p t =
+  fair-heavy : (H L : ℕ) → L ≤ P → H ≤ C → C < m * (2 * T - P) → Fair T C (2 * H) m e ((2 * T - L) * m * e)
+  fair-heavy H L low hc t =
       let q : m * (2 * T - P) ≤ m * (2 * T - L) = mul-le-mul-left m (omega arith) in
       let h = lifts (2 * T - L) m e H (omega arith) in
-      let r = thin-rate (2 * T - L) (omega arith) in
-      record { half = simp sort (omega (arith, simp sort at h)); thin = r; some = mul-pos (mul-pos (omega arith) threaded) long }
+      record { half = simp sort (omega (arith, simp sort at h)); thin = thin-rate (2 * T - L) (omega arith) }
     where
       thin-rate : (E : ℕ) → T ≤ E → m * e * (2 * H) * T ≤ 2 * C * (E * m * e)
       thin-rate E f = simp sort (omega (arith, simp sort at (mul-le-mul-left (m * e) (mul-le-mul hc f))))
 
-  fair-light : (H : ℕ) → 0 < H → m * (2 * T - P) ≤ C → Fair T C (2 * H) m e (e * H)
-  fair-light H p t =
+  fair-light : (H : ℕ) → m * (2 * T - P) ≤ C → Fair T C (2 * H) m e (e * H)
+  fair-light H t =
       let q : m * T ≤ C = le-trans (mul-le-mul-left m (omega arith)) t in
       let h = within C m e T (2 * H) q in
-      record { half = simp sort (omega arith); thin = simp sort (omega (arith, simp sort at h)); some = mul-pos long p }
+      record { half = simp sort (omega arith); thin = simp sort (omega (arith, simp sort at h)) }
 
-module _ {T C P s : ℕ} {m e : ℕ → ℕ} (cut : Cutting T C P s m e) where
+-- in a task with both kinds a light segment's numerator is exactly half its length over Q
+pub light-half : (T C P s : ℕ) (m e : ℕ → ℕ) (i j : ℕ) → i < s → isHeavy T C P (m i) ≡ true → j < s → isHeavy T C P (m j) ≡ false
+    → 2 * dealtTo T C P s m e j ≡ e j * deal T C P s m e .over
+light-half T C P s m e i j k heavy l light = rw (
+  deal-both T C P s m e (λ a. false≢true (sym light ∙ each-heavy T C P s m e a j l)) (λ a. false≢true (sym (each-light T C P s m e a i k) ∙ heavy)),
+  numerator-light _ T C P (m j) (e j) light,
+) (simp sort (omega arith))
+
+module _ {T C P s : ℕ} {m e : ℕ → ℕ} (cut : Segmented T C P s m e) where
   -- H is within the work, L within the path
   pub heavy-whole : heavyWork T C P s m e ≤ C
   heavy-whole = omega (arith, heavy-le T C P s m e)
@@ -60,7 +66,7 @@ module _ {T C P s : ℕ} {m e : ℕ → ℕ} (cut : Cutting T C P s m e) where
   light-whole = omega (arith, light-le T C P s m e)
 
   -- the segments' numerators sum to T × Q
-  pub whole : sumTo s (numeratorOf T C P s m e) ≡ T * deal T C P s m e .over
+  pub whole : sumTo s (dealtTo T C P s m e) ≡ T * deal T C P s m e .over
   whole = sum-numerators (deal T C P s m e) T C P s m e ∙ go (dealt cut)
     where
       go : {d : Deal} → Dealt T C P s m e d → heavyWork T C P s m e * d .heavy + lightLength T C P s m e * d .light ≡ T * d .over
@@ -68,23 +74,10 @@ module _ {T C P s : ℕ} {m e : ℕ → ℕ} (cut : Cutting T C P s m e) where
       go (light-all a) = let k = all-light T C P s m e a in rw (k .0, k .1, ← cut .path) (omega arith)
       go (both h) = shared-out T (lightLength T C P s m e) (2 * T - lightLength T C P s m e) (heavyWork T C P s m e) (omega (arith, light-whole))
 
-  -- path and period are above 0
-  path-some : 0 < P
-  path-some = let a = sum-under e 0 s (cut .some) in let b = cut .lengths 0 (cut .some) in omega arith
-
-  period-some : 0 < T
-  period-some = omega (arith, path-some)
-
   -- one segment, by the deal and by its own kind, and by the deal that it is
   fair-in : {d : Deal} → Dealt T C P s m e d → (j : ℕ) → j < s → Fair T C (d .over) (m j) (e j) (numerator d T C P (m j) (e j))
   fair-in {d} given j l = go given
     where
-      threaded : 0 < m j
-      threaded = cut .threads j l
-
-      long : 0 < e j
-      long = cut .lengths j l
-
       heavy-here : isHeavy T C P (m j) ≡ true → C < m j * (2 * T - P)
       heavy-here = heavy-test T C P (m j)
 
@@ -92,40 +85,27 @@ module _ {T C P s : ℕ} {m e : ℕ → ℕ} (cut : Cutting T C P s m e) where
       light-here = light-test T C P (m j)
 
       go : {d : Deal} → Dealt T C P s m e d → Fair T C (d .over) (m j) (e j) (numerator d T C P (m j) (e j))
-      go {d} (heavy-all a) = rw (numerator-heavy d T C P (m j) (e j) (a j l)) (fair-all-heavy T C P (m j) (e j) (cut .within) threaded long period-some (heavy-here (a j l)))
-      go {d} (light-all a) = rw (numerator-light d T C P (m j) (e j) (a j l)) (fair-all-light T C P (m j) (e j) (cut .within) threaded long period-some (light-here (a j l)))
+      go {d} (heavy-all a) = rw (numerator-heavy d T C P (m j) (e j) (a j l)) (fair-all-heavy T C P (m j) (e j) (cut .within) (heavy-here (a j l)))
+      go {d} (light-all a) = rw (numerator-light d T C P (m j) (e j) (a j l)) (fair-all-light T C P (m j) (e j) (cut .within) (light-here (a j l)))
       go {d} (both h) = by-test (isHeavy T C P (m j))
-          (λ t. rw (numerator-heavy d T C P (m j) (e j) t) (fair-heavy T C P (m j) (e j) (cut .within) threaded long (heavyWork T C P s m e) (lightLength T C P s m e) light-whole heavy-whole period-some (heavy-here t)))
-          (λ t. rw (numerator-light d T C P (m j) (e j) t) (fair-light T C P (m j) (e j) (cut .within) threaded long (heavyWork T C P s m e) h (light-here t)))
+          (λ t. rw (numerator-heavy d T C P (m j) (e j) t) (fair-heavy T C P (m j) (e j) (cut .within) (heavyWork T C P s m e) (lightLength T C P s m e) light-whole heavy-whole (heavy-here t)))
+          (λ t. rw (numerator-light d T C P (m j) (e j) t) (fair-light T C P (m j) (e j) (cut .within) (heavyWork T C P s m e) (light-here t)))
 
-  pub fair : (j : ℕ) → j < s → Fair T C (deal T C P s m e .over) (m j) (e j) (numeratorOf T C P s m e j)
+  pub fair : (j : ℕ) → j < s → Fair T C (deal T C P s m e .over) (m j) (e j) (dealtTo T C P s m e j)
   fair = fair-in (dealt cut)
 
   -- each segment's numerator is at least half its length over Q
-  pub half : (j : ℕ) → j < s → e j * deal T C P s m e .over ≤ 2 * numeratorOf T C P s m e j
+  pub half : (j : ℕ) → j < s → e j * deal T C P s m e .over ≤ 2 * dealtTo T C P s m e j
   half j l = fair j l .half
 
   -- no segment is denser than twice C / T
-  pub thin : (j : ℕ) → j < s → m j * e j * deal T C P s m e .over * T ≤ 2 * C * numeratorOf T C P s m e j
+  pub thin : (j : ℕ) → j < s → m j * e j * deal T C P s m e .over * T ≤ 2 * C * dealtTo T C P s m e j
   thin j l = fair j l .thin
 
-  -- each numerator is above 0, and at most the whole
-  pub some : (j : ℕ) → j < s → 0 < numeratorOf T C P s m e j
-  some j l = fair j l .some
+  -- the path is above 0 and at most the work; Q is above 0 and at most twice the work
+  path-some : 0 < P
+  path-some = let a = sum-under e 0 s (cut .some) in let b = cut .lengths 0 (cut .some) in omega arith
 
-  pub share-le : (j : ℕ) → j < s → numeratorOf T C P s m e j ≤ T * deal T C P s m e .over
-  share-le j l = omega (arith, sum-under (numeratorOf T C P s m e) j s l, whole)
-
-  -- any choice g of segments gets at least half its length over Q
-  pub half-chosen : (g : ℕ → ℕ) → sumTo s (λ j. g j * e j) * deal T C P s m e .over ≤ 2 * sumTo s (λ j. g j * numeratorOf T C P s m e j)
-  half-chosen g =
-      let Q = deal T C P s m e .over in
-      let a = sum-mul s (λ j. g j * e j) Q in
-      let b = sum-mul s (λ j. g j * numeratorOf T C P s m e j) 2 in
-      let c = sum-mono s (λ j. g j * e j * Q) (λ j. g j * numeratorOf T C P s m e j * 2) (λ j l. simp sort (omega (arith, simp sort at (mul-le-mul-left (g j) (half j l))))) in
-      omega arith
-
-  -- the path is at most the work; Q is above 0 and at most twice the work
   pub path-le : P ≤ C
   path-le = omega (arith, sum-mono s e (λ j. m j * e j) (λ j l. omega (arith, mul-le-mul-right (e j) (cut .threads j l))))
 

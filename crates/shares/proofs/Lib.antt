@@ -3,11 +3,9 @@ pub mod Sums
 pub mod Heavies
 pub mod Deals
 pub mod Fair
-pub mod Millionths
+pub mod Densities
 pub mod Edges
 pub mod Walks
-pub mod Filling
 pub mod Triples
 pub mod Numbering
 pub mod Bounds
-mod Worked

@@ -2,18 +2,18 @@
 -- lengths are such words.
 use mathlib.Core.Path.{_≡_, refl, sym, ap₂, _∙_}
 use mathlib.Core.List.{List}
-use Prim.Native.Nat.{ℕ, _+_, _*_, _≤_, _<_, min}
+use Prim.Native.Nat.{ℕ, _+_, _*_, _≤_, _<_}
 use native.Mathlib.Nat.{not-suc-le-zero}
 use native.Mathlib.Omega.{arith}
-use lib.ListN.{length, take, drop, set, length-set, length-take, length-drop}
-use lib.Seq.{getD-set-same, getD-set-other, getD-take, getD-drop, ext-getD}
+use lib.ListN.{length, drop, set, length-set, length-drop}
+use lib.Seq.{getD-set-same, getD-set-other, getD-drop, ext-getD}
 use borrow.Author.Count.{below-more}
 use Rattle.plain.specs.At.{at}
 use Rattle.shares.specs.declared.Deal.{Deal}
 use Rattle.shares.specs.Deal.{numerator}
-use Rattle.shares.specs.Words.{threadsAt, lengthAt, numeratorAt}
-use Rattle.shares.specs.Written.{Numbered}
-use Rattle.shares.proofs.Edges.{Holds}
+use Rattle.shares.specs.Inner.Words.{threadsAt, lengthAt, numeratorAt}
+use Rattle.shares.specs.Inner.Written.{Numbered}
+use Rattle.shares.proofs.Edges.{HoldsSegments}
 
 module _ {d : Deal} {T C P s : ℕ} {w₀ w : List ℕ} (is : Numbered d T C P s w₀ w) where
   -- the other words of the plan are as they were
@@ -22,9 +22,6 @@ module _ {d : Deal} {T C P s : ℕ} {w₀ w : List ℕ} (is : Numbered d T C P s
 
   pub lengths-kept : (j : ℕ) → lengthAt w j ≡ lengthAt w₀ j
   lengths-kept j = is .kept (4 + 3 * j) (λ k l e. omega arith)
-
-  pub head-kept : (k : ℕ) → k < 3 → at w k ≡ at w₀ k
-  head-kept k h = is .kept k (λ j l e. omega arith)
 
   pub rest-kept : (k : ℕ) → 3 + 3 * s ≤ k → at w k ≡ at w₀ k
   rest-kept k h = is .kept k (λ j l e. omega arith)
@@ -42,7 +39,7 @@ numbered-more {d} {T} {C} {P} {s} {w₀} {w} x room p i =
     }
 
 -- the words then hold the cut they held before, with its numerators
-pub numbered-holds : {d : Deal} {T C P s : ℕ} {w₀ w : List ℕ} (m e : ℕ → ℕ) → ((j : ℕ) → j < s → threadsAt w₀ j ≡ m j) → ((j : ℕ) → j < s → lengthAt w₀ j ≡ e j) → Numbered d T C P s w₀ w → Holds w s m e (λ j. numerator d T C P (m j) (e j))
+pub numbered-holds : {d : Deal} {T C P s : ℕ} {w₀ w : List ℕ} (m e : ℕ → ℕ) → ((j : ℕ) → j < s → threadsAt w₀ j ≡ m j) → ((j : ℕ) → j < s → lengthAt w₀ j ≡ e j) → Numbered d T C P s w₀ w → HoldsSegments w s m e (λ j. numerator d T C P (m j) (e j))
 numbered-holds {d} {T} {C} {P} m e p q i =
     record {
       threads = λ j l. threads-kept i j ∙ p j l;
@@ -50,14 +47,6 @@ numbered-holds {d} {T} {C} {P} m e p q i =
       numerators = λ j l. i .written j l ∙ ap₂ (λ (a b : ℕ). numerator d T C P a b) (p j l) (q j l);
     }
 
--- the words before and behind the segments
-pub head-same : {d : Deal} {T C P s : ℕ} {w₀ w : List ℕ} → Numbered d T C P s w₀ w → take 3 w ≡ take 3 w₀
-head-same {w₀ = w₀} {w = w} i = ext-getD 0 (take 3 w) (take 3 w₀) (simp length-take (rw (i .size))) (λ k h. same k (simp length-take at h))
-  where
-    same : (k : ℕ) → k < min 3 (length w) → at (take 3 w) k ≡ at (take 3 w₀) k
-    same k h =
-        let l : k < 3 = omega arith in
-        getD-take 3 w k 0 l ∙ head-kept i k l ∙ sym (getD-take 3 w₀ k 0 l)
-
+-- the words behind the segments
 pub rest-same : {d : Deal} {T C P s : ℕ} {w₀ w : List ℕ} → Numbered d T C P s w₀ w → drop (3 + 3 * s) w ≡ drop (3 + 3 * s) w₀
 rest-same {s = s} {w₀ = w₀} {w = w} i = ext-getD 0 (drop (3 + 3 * s) w) (drop (3 + 3 * s) w₀) (simp length-drop (rw (i .size))) (λ k h. getD-drop (3 + 3 * s) w k 0 ∙ rest-kept i (3 + 3 * s + k) (omega arith) ∙ sym (getD-drop (3 + 3 * s) w₀ k 0))

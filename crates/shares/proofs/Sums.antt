@@ -1,24 +1,10 @@
--- Sums by index that stop early or leave terms out: a test is 1 or 0, a term of 0 adds nothing, and a smaller term adds less.
-use mathlib.Core.Path.{_≡_, refl, ap, _∙_}
-use Prim.Native.Nat.{ℕ, _+_, _*_, _-_, _≤_, _<_}
+-- Sums by index that stop early or leave terms out: a term of 0 adds nothing, and a smaller term adds less.
+use mathlib.Core.Path.{_≡_, refl}
+use Prim.Native.Nat.{ℕ, _+_, _≤_, _<_}
 use native.Mathlib.Decide.{le-ind}
 use native.Mathlib.Omega.{arith}
-use Rattle.plain.specs.Pick.{upTo}
 use Rattle.plain.specs.Sums.{sumTo}
-use Rattle.plain.proofs.Sums.{upTo-is, sum-mono, sum-under}
-
--- a term whose test holds, and one whose test fails
-pub upTo-yes : (a b x : ℕ) → a ≤ b → upTo a b * x ≡ x
-upTo-yes a b x h = ap (λ (n : ℕ). n * x) (let u = upTo-is a b in the-one u) ∙ omega arith
-  where
-    the-one : upTo a b ≡ 1 - (a - b) → upTo a b ≡ 1
-    the-one u = omega arith
-
-pub upTo-no : (a b x : ℕ) → b < a → upTo a b * x ≡ 0
-upTo-no a b x h = ap (λ (n : ℕ). n * x) (let u = upTo-is a b in none u) ∙ omega arith
-  where
-    none : upTo a b ≡ 1 - (a - b) → upTo a b ≡ 0
-    none u = omega arith
+use Rattle.plain.proofs.Sums.{sum-mono, sum-under}
 
 -- terms that are 0 from j on
 pub sum-stops : (f : ℕ → ℕ) (j s : ℕ) → j ≤ s → ((k : ℕ) → j ≤ k → f k ≡ 0) → sumTo s f ≡ sumTo j f

@@ -9,9 +9,9 @@ use native.Mathlib.Omega.{arith}
 use lib.ListN.{length, take, drop, set, getD, length-append, take-append-drop, List·getD-append}
 use lib.Seq.{drop-cons, set-at, append-snoc, getD-append-add}
 use Rattle.plain.specs.At.{at}
-use Rattle.shares.specs.Words.{threadsAt, lengthAt, numeratorAt}
+use Rattle.shares.specs.Inner.Words.{threadsAt, lengthAt, numeratorAt}
 use Rattle.shares.specs.Triples.{triples}
-use Rattle.shares.proofs.Edges.{Holds}
+use Rattle.shares.proofs.Edges.{HoldsSegments}
 
 -- how long they are
 pub length-triples : (f g h : ℕ → ℕ) (n : ℕ) → length (triples f g h n) ≡ 3 * n
@@ -92,7 +92,7 @@ in-triples w (suc s) h =
 
 -- words in that form hold the cut they are made of, and words that hold a cut have that form
 module _ (m e f : ℕ → ℕ) (s : ℕ) where
-  pub triples-hold : (head rest : List ℕ) → length head ≡ 3 → Holds (head ++ triples m e f s ++ rest) s m e f
+  pub triples-hold : (head rest : List ℕ) → length head ≡ 3 → HoldsSegments (head ++ triples m e f s ++ rest) s m e f
   triples-hold head rest long =
       record {
         threads = λ j l. inner (3 + 3 * j) (3 * j) (omega arith) (omega arith) ∙ first-of m e f s j l;
@@ -104,5 +104,5 @@ module _ (m e f : ℕ → ℕ) (s : ℕ) where
       inner i k p h =
           List·getD-append (head ++ triples m e f s) rest 0 i (simp length-append (omega (arith, length-triples m e f s))) ∙ ap (at (head ++ triples m e f s)) p ∙ getD-append-add head (triples m e f s) k 0
 
-  pub hold-triples : {w : List ℕ} → 3 + 3 * s ≤ length w → Holds w s m e f → w ≡ take 3 w ++ triples m e f s ++ drop (3 + 3 * s) w
+  pub hold-triples : {w : List ℕ} → 3 + 3 * s ≤ length w → HoldsSegments w s m e f → w ≡ take 3 w ++ triples m e f s ++ drop (3 + 3 * s) w
   hold-triples {w} room is = in-triples w s room ∙ ap (λ (l : List ℕ). take 3 w ++ l ++ drop (3 + 3 * s) w) (triples-same _ _ _ m e f s (is .threads) (is .lengths) (is .numerators))

@@ -10,8 +10,8 @@ use Rattle.plain.specs.Sums.{sumTo}
 use Rattle.plain.proofs.Lists.{lt-or-ge}
 use Rattle.plain.proofs.Sums.{sumTo-none, sumTo-more, sum-under}
 use Rattle.shares.specs.declared.Mark.{Mark}
-use Rattle.shares.specs.Words.{lengthAt, numeratorAt, edge, stretchedIn}
-use Rattle.shares.specs.Walks.{Along, Walked}
+use Rattle.shares.specs.Inner.Words.{lengthAt, numeratorAt, edge, stretchedIn}
+use Rattle.shares.specs.Inner.Walks.{Along, Walked}
 use Rattle.shares.proofs.Edges.{edge-none, edge-more, edge-suc, edge-under, stretched-all, stretched-past}
 
 module _ {w : List ℕ} {s t : ℕ} where

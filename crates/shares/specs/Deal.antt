@@ -27,7 +27,3 @@ deal T C P s m e =
 -- the deadline numerator of a segment with m threads and length e
 unfoldable pub numerator : (d : Deal) (T C P m e : ℕ) → ℕ
 numerator d T C P m e = pick (isHeavy T C P m) (d .heavy * m * e) (e * d .light)
-
--- the deadline numerator of segment j of a task
-abbrev pub numeratorOf : (T C P s : ℕ) (m e : ℕ → ℕ) (j : ℕ) → ℕ
-numeratorOf T C P s m e j = numerator (deal T C P s m e) T C P (m j) (e j)

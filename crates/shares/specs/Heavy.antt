@@ -4,7 +4,6 @@ use Prim.Native.Nat.{ℕ, _*_, _-_}
 use lib.Dec.{ltb}
 use Rattle.plain.specs.Pick.{pick, one}
 use Rattle.plain.specs.Sums.{sumTo}
-use Rattle.shares.specs.declared.Kinds.{Kinds}
 
 -- "A segment is heavy when m_j × (2T − P) > C, otherwise light (T the period)."
 unfoldable pub isHeavy : (T C P m : ℕ) → Bool
@@ -21,7 +20,3 @@ heavyWork T C P s m e = sumTo s (λ j. pick (isHeavy T C P (m j)) (m j * e j) 0)
 -- L: "the summed length of light segments"
 unfoldable pub lightLength : (T C P s : ℕ) (m e : ℕ → ℕ) → ℕ
 lightLength T C P s m e = sumTo s (λ j. pick (isHeavy T C P (m j)) 0 (e j))
-
--- the number of heavy segments with H and L
-abbrev pub kinds : (T C P s : ℕ) (m e : ℕ → ℕ) → Kinds
-kinds T C P s m e = record { heavies = heavies T C P s m; work = heavyWork T C P s m e; length = lightLength T C P s m e }

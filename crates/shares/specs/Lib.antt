@@ -1,9 +1,6 @@
 pub mod Heavy
 pub mod Deal
 pub mod Density
-pub mod Words
-pub mod Walks
+pub mod Figures
 pub mod Triples
-pub mod Written
-pub mod Cutting
-pub mod Asked
+pub mod Inner

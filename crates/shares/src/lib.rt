@@ -1,19 +1,21 @@
 // Shares of the period: heavy and light segments, Q, deadline numerators, densities.
 ghost use mathlib.Core.Path.{_≡_};
 ghost use mathlib.Core.List.{_++_};
-ghost use Prim.Native.Nat.{ℕ, _*_, _-_, _≤_, _<_};
+ghost use Prim.Native.Nat.{ℕ, _+_, _*_, _-_, _≤_, _<_};
 ghost use lib.ListN.{length, drop};
 ghost use Rattle.plain.specs.At.{at};
-ghost use Rattle.tables.specs.Limits.{countMax};
-ghost use Rattle.lineups.specs.LinedUp.{LinedUp};
-ghost use Rattle.shares.specs.Heavy.{isHeavy, kinds};
+ghost use Rattle.tables.specs.Limits.{countMax, densityMax};
+ghost use Rattle.lineups.specs.Inner.LinedUp.{LinedUp};
+ghost use Rattle.shares.specs.Heavy.{isHeavy};
+ghost use Rattle.shares.specs.Inner.Kinds.{kinds};
 ghost use Rattle.shares.specs.Deal.{deal, numerator};
 ghost use Rattle.shares.specs.Density.{millionths};
-ghost use Rattle.shares.specs.Words.{threadsAt, lengthAt, stretchedIn};
+ghost use Rattle.shares.specs.Figures.{figures};
+ghost use Rattle.shares.specs.Inner.Words.{threadsAt, lengthAt, stretchedIn};
 ghost use Rattle.shares.specs.Triples.{triples};
-ghost use Rattle.shares.specs.Written.{Numbered};
-ghost use Rattle.shares.specs.Walks.{Along, Walked};
-ghost use Rattle.shares.specs.Asked.{DensityIn, HeavyIn, NumeratorIn, DealIn, FillIn, SumsIn, NodesIn};
+ghost use Rattle.shares.specs.Inner.Written.{Numbered};
+ghost use Rattle.shares.specs.Inner.Walks.{Along, Walked};
+ghost use Rattle.shares.specs.Inner.Asked.{DensityIn, HeavyIn, NumeratorIn, DealIn, FillIn, SumsIn, NodesIn};
 
 // How the period is dealt out: Q, what a heavy segment gets per unit of work, what a light one gets per unit of length.
 pub struct Deal {
@@ -36,15 +38,15 @@ pub struct Mark {
     pub sum: u64,
 }
 
-// One, in millionths.
-pub const MILLION: u64 = 1_000_000;
-
-// A node's density in millionths, rounded up.
-pub fn density(execution: u64, over: u64, numerator: u64) -> u64
+// A node's density in millionths, rounded up; 0 for a node that gets nothing.
+pub fn millionths(execution: u64, over: u64, numerator: u64) -> u64
     requires { ⌜ DensityIn execution over numerator ⌝ }
     ensures { λ r. ⌜ r ≡ millionths execution over numerator ⌝ }
 {
-    (execution * over * MILLION + (numerator - 1)) / numerator
+    if numerator == 0 {
+        return 0;
+    }
+    (execution * over * tables::MILLION + (numerator - 1)) / numerator
 }
 
 // Whether a segment is heavy.
@@ -200,7 +202,33 @@ pub fn fill_nodes<'a>(
         let d = ends[v] - offsets[v];
         out[k] = offsets[v];
         out[k + 1] = d;
-        out[k + 2] = density(executions[v], over, d);
+        out[k + 2] = millionths(executions[v], over, d);
         v += 1;
     }
+}
+
+// The total and the largest of a task's densities.
+pub struct Figures {
+    pub sum: u64,
+    pub largest: u64,
+}
+
+// The figures of a task, from the node words of its plan: (offset, deadline, density) for each of its n nodes.
+pub fn figures_of(nodes: &[u64], n: usize) -> Figures
+    requires { ⌜ (n ≤ countMax) × (3 * n ≤ length (now nodes)) ⌝ }
+    requires { ⌜ ((v : ℕ) → v < n → at (now nodes) (3 * v + 2) ≤ densityMax) ⌝ }
+    ensures { λ r. ⌜ r ≡ figures n (λ v. at (now (nodes .entry)) (3 * v + 2)) ⌝ }
+{
+    let mut sum: u64 = 0;
+    let mut largest: u64 = 0;
+    let mut v: usize = 0;
+    while v < n {
+        let density = nodes[3 * v + 2];
+        sum += density;
+        if largest < density {
+            largest = density;
+        }
+        v += 1;
+    }
+    Figures { sum, largest }
 }

@@ -7,9 +7,9 @@ use native.Mathlib.Omega.{arith}
 use lib.ListN.{length, length-append}
 use Rattle.plain.specs.Sums.{sumTo}
 use Rattle.plain.proofs.Sums.{sum-under}
-use Rattle.sheets.specs.Wrote.{Room, Wrote}
-use Rattle.sheets.specs.Sheet.{linesTo}
-use Rattle.sheets.proofs.Writes.{_then_, kept, wrote-none}
+use Rattle.texts.specs.Inner.Wrote.{Room, Wrote}
+use Rattle.texts.proofs.Writes.{_then_, kept, wrote-none}
+use Rattle.sheets.specs.Lines.{linesTo}
 
 -- how many bytes the lines have
 pub length-linesTo : (n : ℕ) (line : ℕ → List ℕ) → length (linesTo n line) ≡ sumTo n (λ k. length (line k))

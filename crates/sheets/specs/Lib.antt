@@ -1,6 +1,4 @@
-pub mod Text
-pub mod Decimal
-pub mod Wrote
 pub mod Lines
 pub mod Sheet
 pub mod Printed
+pub mod Inner

@@ -1,48 +1,42 @@
--- "prints lines of fixed words and decimals"
+-- The lines of a sheet: "fixed words and decimals".
 use mathlib.Core.List.{List, [], _∷_, _++_}
-use Prim.Native.Nat.{ℕ}
-use Rattle.sheets.specs.Text.{bytes}
-use Rattle.sheets.specs.Decimal.{decimal}
-
--- the byte after a number within a line
-abbrev pub space : ℕ
-space = 32
-
--- the byte after a line's last number
-abbrev pub lineEnd : ℕ
-lineEnd = 10
-
--- a fixed word, a decimal and the byte after it
-unfoldable pub field : (word : List ℕ) (value after : ℕ) → List ℕ
-field word value after = word ++ decimal value ++ (after ∷ [])
-
--- a line: fixed words, each with its number
-abbrev pub line : List (List ℕ × ℕ) → List ℕ
-line [] = []
-line ((word, value) ∷ []) = field word value lineEnd
-line ((word, value) ∷ next ∷ rest) = field word value space ++ line (next ∷ rest)
+use Prim.Native.Nat.{ℕ, zero, suc, _+_, _*_}
+use Rattle.plain.specs.At.{at}
+use Rattle.refusals.specs.declared.Refusal.{Refusal}
+use Rattle.shares.specs.declared.Figures.{Figures}
+use Rattle.texts.specs.declared.Triple.{Triple}
+use Rattle.texts.specs.Text.{bytes}
+use Rattle.texts.specs.Lines.{line}
+use Rattle.sheets.specs.declared.lines.Head.{Head}
+use Rattle.sheets.specs.declared.lines.Part.{Part}
+use Rattle.sheets.specs.declared.lines.Part.the-variants.{Segments, Nodes}
 
 -- "task 3 period 6 work 5 path 3 over 5"
-abbrev pub taskLine : (id period work path over : ℕ) → List ℕ
-taskLine id period work path over =
-    line ((bytes "task ", id) ∷ (bytes "period ", period) ∷ (bytes "work ", work) ∷ (bytes "path ", path) ∷ (bytes "over ", over) ∷ [])
+abbrev pub taskLine : Head → (over : ℕ) → List ℕ
+taskLine head over = line ((bytes "task ", head .id) ∷ (bytes "period ", head .period) ∷ (bytes "work ", head .work) ∷ (bytes "path ", head .path) ∷ (bytes "over ", over) ∷ [])
 
--- a triple's line: its name and number k, and a word for each of its three numbers
-abbrev pub tripleLine : (name a b c : List ℕ) (k x y z : ℕ) → List ℕ
-tripleLine name a b c k x y z = line ((name, k) ∷ (a, x) ∷ (b, y) ∷ (c, z) ∷ [])
+-- "seg 0 threads 2 length 1 deadline 12", "node 0 offset 0 deadline 30 density 500000"
+abbrev pub tripleLine : Part → (k : ℕ) → Triple → List ℕ
+tripleLine Segments j t = line ((bytes "seg ", j) ∷ (bytes "threads ", t .x) ∷ (bytes "length ", t .y) ∷ (bytes "deadline ", t .z) ∷ [])
+tripleLine Nodes v t = line ((bytes "node ", v) ∷ (bytes "offset ", t .x) ∷ (bytes "deadline ", t .y) ∷ (bytes "density ", t .z) ∷ [])
 
--- "seg 0 threads 2 length 1 deadline 12"
-abbrev pub segLine : (j threads length deadline : ℕ) → List ℕ
-segLine = tripleLine (bytes "seg ") (bytes "threads ") (bytes "length ") (bytes "deadline ")
+-- triple k of the words of a part
+abbrev pub tripleAt : (triples : List ℕ) (k : ℕ) → Triple
+tripleAt triples k = record { x = at triples (3 * k); y = at triples (3 * k + 1); z = at triples (3 * k + 2) }
 
--- "node 0 offset 0 deadline 30 density 500000"
-abbrev pub nodeLine : (v offset deadline density : ℕ) → List ℕ
-nodeLine = tripleLine (bytes "node ") (bytes "offset ") (bytes "deadline ") (bytes "density ")
+-- line 0, line 1, .., n of them
+unfoldable pub linesTo : ℕ → (ℕ → List ℕ) → List ℕ
+linesTo zero line = []
+linesTo (suc n) line = linesTo n line ++ line n
+
+-- "the plan's triples in their order, numbered from 0"
+abbrev pub triplesTo : (n : ℕ) → Part → (triples : List ℕ) → List ℕ
+triplesTo n part triples = linesTo n (λ k. tripleLine part k (tripleAt triples k))
 
 -- "sum 1333334 max 500000"
-abbrev pub totalLine : (sum largest : ℕ) → List ℕ
-totalLine sum largest = line ((bytes "sum ", sum) ∷ (bytes "max ", largest) ∷ [])
+abbrev pub totalLine : Figures → List ℕ
+totalLine figures = line ((bytes "sum ", figures .sum) ∷ (bytes "max ", figures .largest) ∷ [])
 
--- "refused 10 at 0"
-abbrev pub refusedLine : (number place : ℕ) → List ℕ
-refusedLine number place = line ((bytes "refused ", number) ∷ (bytes "at ", place) ∷ [])
+-- "refused 10 at 0", the number and the place
+abbrev pub refusedLine : Refusal → List ℕ
+refusedLine r = line ((bytes "refused ", r .number) ∷ (bytes "at ", r .place) ∷ [])

@@ -8,13 +8,18 @@ use Rattle.tables.specs.declared.TaskTable.{TaskTable}
 use Rattle.plans.specs.Diagram.{work, path}
 use Rattle.plans.specs.Words.{wordsMax, written}
 use Rattle.plans.specs.Calls.{onTask}
+use Rattle.texts.specs.Wrote.{wrote}
+use Rattle.sheets.specs.declared.lines.Head.{Head}
 use Rattle.sheets.specs.Lines.{refusedLine}
 use Rattle.sheets.specs.Sheet.{sheetText, sheetMax}
-use Rattle.sheets.specs.Wrote.{wrote}
+
+-- "The first line also gives id, T, C and P"
+abbrev pub headOf : TaskTable → Head
+headOf t = record { id = t .id; period = t .period; work = work t; path = path t }
 
 -- the sheet of a table, planned into words that hold 0
 abbrev pub tableSheet : TaskTable → List ℕ
-tableSheet t = sheetText (t .id) (t .period) (work t) (path t) (written t (replicate wordsMax 0))
+tableSheet t = sheetText (headOf t) (written t (replicate wordsMax 0))
 
 -- the sheet of a record: 1 to 9 as met, 10, 11, else the plan
 abbrev pub sheetOf : List ℕ → List ℕ

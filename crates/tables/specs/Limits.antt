@@ -1,4 +1,4 @@
--- The limits of a task record, each named once; the others are derived from them.
+-- The limits of a task record and of a density, each named once.
 use Prim.Native.Nat.{ℕ, _*_}
 
 -- "task id (1..65,535)"
@@ -16,14 +16,6 @@ countMax = 64
 -- "its execution (1..65,535)"
 abbrev pub executionMax : ℕ
 executionMax = 65535
-
--- the greatest work C: every node at its greatest execution
-abbrev pub workMax : ℕ
-workMax = countMax * executionMax
-
--- the greatest Q: twice the greatest work of the heavy segments
-abbrev pub overMax : ℕ
-overMax = 2 * workMax
 
 -- "It is kept in millionths"
 abbrev pub million : ℕ

@@ -1,6 +1,6 @@
 // The table of one task: what a record says, by value.
 ghost use mathlib.Core.Path.{_≡_};
-ghost use Rattle.tables.specs.Limits.{idMax, periodMax, countMax, executionMax};
+ghost use Rattle.tables.specs.Limits.{idMax, periodMax, countMax, executionMax, million};
 ghost use Rattle.tables.specs.Table.{emptyTable};
 
 // A parent set is one word: bit p of parents[v] is set where v waits for p.
@@ -11,6 +11,9 @@ pub struct TaskTable {
     pub execution: [u64; 64],
     pub parents: [u64; 64],
 }
+
+// One, in millionths.
+pub const MILLION: u64 = 1_000_000;
 
 impl TaskTable {
     pub const ID_MAX: u64 = 65535;
@@ -40,4 +43,5 @@ pub fn limits_named()
     ensures { λ _. do ⌜ (← ⟦TaskTable::PERIOD_MAX⟧ .entry) ≡ periodMax ⌝ }
     ensures { λ _. do ⌜ (← ⟦TaskTable::COUNT_MAX⟧ .entry) ≡ countMax ⌝ }
     ensures { λ _. do ⌜ (← ⟦TaskTable::EXECUTION_MAX⟧ .entry) ≡ executionMax ⌝ }
+    ensures { λ _. do ⌜ (← ⟦MILLION⟧ .entry) ≡ million ⌝ }
 {}

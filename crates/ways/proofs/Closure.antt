@@ -17,8 +17,9 @@ use Rattle.sets.specs.Size.{sizeTo}
 use Rattle.sets.proofs.Bits.{bit-le, bit-zero, mem-or, not-mem, has-in}
 use Rattle.sets.proofs.Sizes.{size-less, size-lt}
 use Rattle.sets.proofs.Rule.{bit-set, bit-past}
-use Rattle.ways.specs.Reaches.{Reaches, edge, more, Loops, Tidy}
-use Rattle.ways.specs.Closure.{union, through, stage, rows, reach, some, loops}
+use Rattle.ways.specs.Reaches.{Reaches, edge, more, Loops}
+use Rattle.ways.specs.Inner.Tidy.{Tidy}
+use Rattle.ways.specs.Closure.{union, through, stage, stages, reach, some, loops}
 use Rattle.ways.proofs.Reaches.{trans, parent-lt, reached-lt, from-lt}
 
 module _ (n a b : ℕ) where
@@ -102,43 +103,43 @@ rank P n v = sizeTo n (at (reach P n) v)
 
 module _ (P : List ℕ) (n : ℕ) (ok : Tidy P n) where
   -- past n a row is empty
-  pub rows-past : (k v : ℕ) → n ≤ v → at (rows P n k) v ≡ 0
-  unfolding rows stage
-  rows-past zero v h = ok .past v h
-  rows-past (suc k) v h = at-tab-past n (through n k (at (rows P n k))) v h
+  pub stages-past : (k v : ℕ) → n ≤ v → at (stages P n k) v ≡ 0
+  unfolding stages stage
+  stages-past zero v h = ok .past v h
+  stages-past (suc k) v h = at-tab-past n (through n k (at (stages P n k))) v h
 
   -- the rows, entry by entry
-  pub at-rows : (k v : ℕ) → at (rows P n (suc k)) v ≡ through n k (at (rows P n k)) v
-  unfolding rows stage
-  at-rows k = at-tab-all n (through n k (at (rows P n k))) (λ v h. through-zero n k (at (rows P n k)) v (rows-past k v h))
+  pub at-stages : (k v : ℕ) → at (stages P n (suc k)) v ≡ through n k (at (stages P n k)) v
+  unfolding stages stage
+  at-stages k = at-tab-all n (through n k (at (stages P n k))) (λ v h. through-zero n k (at (stages P n k)) v (stages-past k v h))
 
   -- what is in a row is reached
-  sound : (k v q : ℕ) → Member q (at (rows P n k) v) → Reaches P v q
-  unfolding rows
+  sound : (k v q : ℕ) → Member q (at (stages P n k) v) → Reaches P v q
+  unfolding stages
   sound zero v q m = edge m
   sound (suc k) v q m = ⊎-elim
-      (λ (x : Member q (at (rows P n k) v)). sound k v q x)
+      (λ (x : Member q (at (stages P n k) v)). sound k v q x)
       (λ w. trans (sound k v k (w .0)) (sound k k q (w .1)))
-      (through-cases n k (at (rows P n k)) v q (rw (at-rows k v) at m))
+      (through-cases n k (at (stages P n k)) v q (rw (at-stages k v) at m))
 
   -- so it is below n
-  low : (k v q : ℕ) → Member q (at (rows P n k) v) → q < n
+  low : (k v q : ℕ) → Member q (at (stages P n k) v) → q < n
   low k v q m = reached-lt P n ok (sound k v q m)
 
   -- a parent stays in, and ways through nodes below k are there after k stages
-  keeps : (k v q : ℕ) → Member q (at P v) → Member q (at (rows P n k) v)
-  unfolding rows
+  keeps : (k v q : ℕ) → Member q (at P v) → Member q (at (stages P n k) v)
+  unfolding stages
   keeps zero v q m = m
-  keeps (suc k) v q m = rw (at-rows k v) (through-keeps n k (at (rows P n k)) (low k) v q (keeps k v q m))
+  keeps (suc k) v q m = rw (at-stages k v) (through-keeps n k (at (stages P n k)) (low k) v q (keeps k v q m))
 
-  joins : (k m v q : ℕ) → m < k → Member m (at (rows P n k) v) → Member q (at (rows P n k) m) → Member q (at (rows P n k) v)
+  joins : (k m v q : ℕ) → m < k → Member m (at (stages P n k) v) → Member q (at (stages P n k) m) → Member q (at (stages P n k) v)
   joins zero m v q l a b = absurd (not-suc-le-zero l)
   joins (suc k) m v q l a b =
-      rw (at-rows k v)
-      (through-joins n k (at (rows P n k)) (low k) (joins k) m v q l (rw (at-rows k v) at a) (rw (at-rows k m) at b))
+      rw (at-stages k v)
+      (through-joins n k (at (stages P n k)) (low k) (joins k) m v q l (rw (at-stages k v) at a) (rw (at-stages k m) at b))
 
   -- what is reached is in the row, after n stages
-  complete : {v q : ℕ} → Reaches P v q → Member q (at (rows P n n) v)
+  complete : {v q : ℕ} → Reaches P v q → Member q (at (stages P n n) v)
   complete (edge {v} {p} e) = keeps n v p e
   complete (more {v} {p} {q} e r) = joins n p v q (parent-lt P n ok v p e) (keeps n v p e) (complete r)
 

@@ -7,4 +7,3 @@ mod Words
 mod Settling
 mod Waiting
 mod Pass
-mod Worked

@@ -15,10 +15,11 @@ use Rattle.sets.specs.Member.{bit, Member}
 use Rattle.sets.specs.Size.{sizeTo}
 use Rattle.sets.proofs.Bits.{bit-zero, mem-or, not-mem, put-other}
 use Rattle.sets.proofs.Sizes.{size-none, size-put, size-all}
-use Rattle.ways.specs.Reaches.{Reaches, edge, more, Tidy}
+use Rattle.ways.specs.Reaches.{Reaches, edge, more}
+use Rattle.ways.specs.Inner.Tidy.{Tidy}
 use Rattle.ways.specs.Closure.{loops}
-use Rattle.ways.specs.Order.{Ordered, Sorted}
-use Rattle.ways.specs.Waiting.{Listed}
+use Rattle.ways.specs.Inner.Order.{Ordered, Sorted}
+use Rattle.ways.specs.Inner.Waiting.{Listed}
 use Rattle.ways.proofs.Reaches.{from-lt}
 
 module _ (P : List ℕ) (n : ℕ) (l : List ℕ) (o : Ordered P n n l) where
@@ -71,12 +72,9 @@ module _ {P : List ℕ} {n c : ℕ} {l : List ℕ} (s : Sorted P n c l) where
   pub short-loops : c < n → loops P n ≡ true
   short-loops h = s .told ∙ lt-ltb c n h
 
-  -- it did not: there is none, by the test and by the relation, and the order is whole
+  -- it did not: there is none, and the order is whole
   pub whole-loops : n ≤ c → loops P n ≡ false
   whole-loops h = s .told ∙ le-ltb c n h
-
-  pub whole-free : n ≤ c → (v : ℕ) → Reaches P v v → ⊥
-  whole-free h = s .free (le-antisymm (s .within) h)
 
   pub whole-order : n ≤ c → Ordered P n n l
   whole-order h = rw (le-antisymm (s .within) h) at (s .order)

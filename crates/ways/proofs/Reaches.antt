@@ -7,7 +7,8 @@ use Rattle.plain.specs.At.{at}
 use Rattle.plain.proofs.Lists.{lt-or-ge}
 use Rattle.sets.specs.Member.{bit, Member}
 use Rattle.sets.proofs.Bits.{bit-zero, mem-lt, not-mem}
-use Rattle.ways.specs.Reaches.{Reaches, edge, more, Tidy}
+use Rattle.ways.specs.Reaches.{Reaches, edge, more}
+use Rattle.ways.specs.Inner.Tidy.{Tidy}
 
 -- a way from a to b and one from b to c are a way from a to c
 pub trans : {P : List ℕ} {a b c : ℕ} → Reaches P a b → Reaches P b c → Reaches P a c

@@ -13,13 +13,15 @@ use lib.ListN.{length, set, length-set}
 use lib.Seq.{getD-set-same, getD-set-other}
 use Rattle.plain.specs.At.{at}
 use Rattle.plain.proofs.Lists.{lt-or-ge}
-use Rattle.sets.specs.Member.{bit, Member, Subset, withMember}
+use Rattle.sets.specs.Member.{bit, Member}
+use Rattle.sets.specs.Inner.Put.{withMember}
 use Rattle.sets.proofs.Bits.{bit-zero, not-mem, mem-or-l, put-same, put-other, with-or}
 use Rattle.sets.proofs.Sizes.{size-none, size-lt, size-full, size-put, size-hole}
-use Rattle.ways.specs.Reaches.{Reaches, Tidy}
+use Rattle.ways.specs.Reaches.{Reaches}
+use Rattle.ways.specs.Inner.Tidy.{Tidy}
 use Rattle.ways.specs.Closure.{loops}
-use Rattle.ways.specs.Order.{Ordered, Sorted}
-use Rattle.ways.specs.Waiting.{Settling}
+use Rattle.ways.specs.Inner.Order.{Ordered, Sorted}
+use Rattle.ways.specs.Inner.Waiting.{Settling}
 use Rattle.ways.proofs.Reaches.{parent-lt}
 use Rattle.ways.proofs.Closure.{rank, rank-falls, loops-yes, loops-no, loops-false}
 use Rattle.ways.proofs.Orders.{order-free}
@@ -46,7 +48,7 @@ pub settle-room : {P : List ℕ} {n c s : ℕ} {l : List ℕ} (v : ℕ) → Sett
 settle-room {n = n} {s = s} v t h = let a = size-lt n s v (h .0) (h .1) in let b = t .size in omega arith
 
 -- one turn more: v put at the end
-module _ {P : List ℕ} {n c s v : ℕ} {l : List ℕ} (room : c < length l) (h : v < n) (z : bit v s ≡ 0) (up : Subset (at P v) s) (t : Settling P n c l s) where
+module _ {P : List ℕ} {n c s v : ℕ} {l : List ℕ} (room : c < length l) (h : v < n) (z : bit v s ≡ 0) (up : (p : ℕ) → Member p (at P v) → Member p s) (t : Settling P n c l s) where
   -- the list with v at its end: its old entries, its new one, and that v was not there
   old : (i : ℕ) → i < c → at (set l c v) i ≡ at l i
   old i q = getD-set-other l c i v 0 (ne-of-lt q)

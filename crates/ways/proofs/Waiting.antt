@@ -12,14 +12,15 @@ use lib.ListN.{length, replicate, set, length-set}
 use lib.Seq.{getD-set-same, getD-set-other}
 use Rattle.plain.specs.At.{at}
 use Rattle.plain.proofs.Lists.{at-replicate}
-use Rattle.sets.specs.Member.{bit, Member, withMember}
+use Rattle.sets.specs.Member.{bit, Member}
+use Rattle.sets.specs.Inner.Put.{withMember}
 use Rattle.sets.specs.Rule.{setOf}
 use Rattle.sets.proofs.Bits.{bit-zero, bit-out-same, bit-out-other, mem-lt, mem-or, mem-or-l, not-mem, put-same, put-other, with-or}
 use Rattle.sets.proofs.Rule.{bit-set, set-lt}
 use Rattle.sets.proofs.Walks.{Walk}
-use Rattle.ways.specs.Reaches.{Tidy}
-use Rattle.ways.specs.Order.{Sorted}
-use Rattle.ways.specs.Waiting.{Listed, Waits, Unsettled, Waiting}
+use Rattle.ways.specs.Inner.Tidy.{Tidy}
+use Rattle.ways.specs.Inner.Order.{Sorted}
+use Rattle.ways.specs.Inner.Waiting.{Listed, Waits, Unsettled, Waiting}
 use Rattle.ways.proofs.Reaches.{parent-lt, child-lt}
 use Rattle.ways.proofs.Words.{none-missing}
 use Rattle.ways.proofs.Settling.{settle-none, settle-count, settle-room, settle-more, settle-end}

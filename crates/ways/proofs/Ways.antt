@@ -11,8 +11,10 @@ use Rattle.plain.proofs.Lists.{lt-or-ge, at-tab, at-tab-past}
 use Rattle.sets.specs.Member.{Member}
 use Rattle.sets.specs.Greatest.{greatest}
 use Rattle.sets.proofs.Greatest.{greatest-le, le-greatest, greatest-same, greatest-is}
-use Rattle.ways.specs.Reaches.{Reaches, Tidy}
-use Rattle.ways.specs.Ways.{weightMax, beginBy, endBy, endsAfter, ends, begins}
+use Rattle.ways.specs.Reaches.{Reaches}
+use Rattle.ways.specs.Inner.Tidy.{Tidy}
+use Rattle.ways.specs.Ways.{beginBy, endBy, endsAfter, ends, begins}
+use Rattle.ways.specs.Inner.Weights.{weightMax}
 use Rattle.ways.proofs.Reaches.{parent-lt, child-lt}
 use Rattle.ways.proofs.Closure.{rank, rank-falls, rank-lt}
 

@@ -5,7 +5,7 @@ use Prim.Native.Nat.{ℕ, zero, suc, _+_, _-_, _^_, _<_}
 use native.Mathlib.Nat.{pow-suc, one-mul}
 use native.Mathlib.Omega.{arith}
 use lib.Bits.{bitAnd}
-use Rattle.sets.specs.Member.{bit, Member, Subset}
+use Rattle.sets.specs.Member.{bit, Member}
 use Rattle.sets.specs.Rule.{setOf}
 use Rattle.sets.proofs.Bits.{bit-le, bit-zero, bit-and, bit-not, mem-or, not-mem}
 
@@ -19,7 +19,7 @@ missing a s k l h m =
     (omega arith, omega arith)
 
 -- none
-pub none-missing : (a s : ℕ) → ((k : ℕ) → Member k a → k < 64) → s < 2 ^ 64 → bitAnd a (2 ^ 64 - 1 - s) ≡ 0 → Subset a s
+pub none-missing : (a s : ℕ) → ((k : ℕ) → Member k a → k < 64) → s < 2 ^ 64 → bitAnd a (2 ^ 64 - 1 - s) ≡ 0 → (k : ℕ) → Member k a → Member k s
 none-missing a s g h z k m = ⊎-elim (λ (x : Member k s). x) (λ (o : bit k s ≡ 0). absurd (lacks o)) (mem-or k s)
   where
     lacks : bit k s ≡ 0 → ⊥

@@ -20,13 +20,13 @@ unfoldable pub stage : ℕ → ℕ → List ℕ → List ℕ
 stage n k R = tab n (through n k (at R))
 
 -- at first row v holds the parents of v; after k stages, all that v reaches by ways whose inner nodes are below k
-unfoldable pub rows : List ℕ → ℕ → ℕ → List ℕ
-rows P n zero = P
-rows P n (suc k) = stage n k (rows P n k)
+unfoldable pub stages : List ℕ → ℕ → ℕ → List ℕ
+stages P n zero = P
+stages P n (suc k) = stage n k (stages P n k)
 
 -- row v: the nodes that v reaches
 unfoldable pub reach : List ℕ → ℕ → List ℕ
-reach P n = rows P n n
+reach P n = stages P n n
 
 -- whether the test holds of some number below n
 unfoldable pub some : ℕ → (ℕ → Bool) → Bool

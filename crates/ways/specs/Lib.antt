@@ -2,5 +2,4 @@ pub mod Reaches
 pub mod Closure
 pub mod Ways
 pub mod Totals
-pub mod Order
-pub mod Waiting
+pub mod Inner

@@ -1,7 +1,6 @@
 -- Which nodes a node reaches over its parents, and what a loop is.
-use mathlib.Core.Path.{_≡_}
 use mathlib.Core.List.{List}
-use Prim.Native.Nat.{ℕ, _^_, _≤_, _<_}
+use Prim.Native.Nat.{ℕ, _<_}
 use Rattle.plain.specs.At.{at}
 use Rattle.sets.specs.Member.{Member}
 
@@ -13,8 +12,3 @@ pub data Reaches (P : List ℕ) : ℕ → ℕ → Type 0 where
 -- "some node is reached from itself by one or more parent edges"
 abbrev pub Loops : List ℕ → ℕ → Type 0
 Loops P n = (v : ℕ) × (v < n) × Reaches P v v
-
--- the range of parent sets: "parent numbers, each below n", and "Entries past the node count are 0"
-pub record Tidy (P : List ℕ) (n : ℕ) : Type 0 where
-  pub past : (v : ℕ) → n ≤ v → at P v ≡ 0
-  pub word : (v : ℕ) → at P v < 2 ^ n

@@ -2,13 +2,9 @@
 -- other starts at the latest finish of its parents. Finish is start plus execution." With deadline numerators as weights begin is the
 -- offset: "Its offset is 0 without parents, else the greatest parent's offset plus deadline."
 use mathlib.Core.List.{List, []}
-use Prim.Native.Nat.{ℕ, zero, suc, _+_, _^_}
+use Prim.Native.Nat.{ℕ, zero, suc, _+_}
 use Rattle.plain.specs.At.{at, tab}
 use Rattle.sets.specs.Greatest.{greatest}
-
--- the greatest weight that the code takes: 64 of them fit a word
-abbrev pub weightMax : ℕ
-weightMax = 2 ^ 57
 
 -- begin of v, given ends E: 0 without parents, else the greatest end of its parents
 abbrev pub beginBy : List ℕ → ℕ → (ℕ → ℕ) → ℕ → ℕ

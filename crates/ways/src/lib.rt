@@ -5,11 +5,12 @@ ghost use lib.ListN.{length, replicate};
 ghost use Rattle.plain.specs.At.{at};
 ghost use Rattle.plain.specs.Sums.{maxTo};
 ghost use Rattle.sets.specs.Rule.{setOf};
-ghost use Rattle.ways.specs.Reaches.{Tidy};
-ghost use Rattle.ways.specs.Ways.{weightMax, begins, ends};
+ghost use Rattle.ways.specs.Inner.Tidy.{Tidy};
+ghost use Rattle.ways.specs.Ways.{begins, ends};
+ghost use Rattle.ways.specs.Inner.Weights.{weightMax};
 ghost use Rattle.ways.specs.Totals.{workOf};
-ghost use Rattle.ways.specs.Order.{Ordered, Sorted};
-ghost use Rattle.ways.specs.Waiting.{Waiting};
+ghost use Rattle.ways.specs.Inner.Order.{Ordered, Sorted};
+ghost use Rattle.ways.specs.Inner.Waiting.{Waiting};
 
 // The set of all nodes below n.
 fn all_nodes(n: usize) -> u64

@@ -61,13 +61,14 @@ fn alone(name: &[u8], record: &[u8], cores: u64, yes: u64) {
 // A withdrawal from the empty board.
 fn not_withdrawn(name: &[u8], id: u64) {
     let change = boards::withdrawn(Board::empty(), id);
-    say(name, change.answer.refusal == 14);
+    let answer = change.answer;
+    say(name, answer.refusal == 14 && answer.place == 0);
 }
 
 // Plans in words: Q, s, n, the segments' triples, the nodes' triples.
 const PERIOD_TEN: [u64; 9] = [5, 1, 1, 1, 5, 50, 0, 50, 500000];
 
-const PERIOD_FIVE: [u64; 9] = [5, 1, 1, 1, 5, 25, 0, 25, 1000000];
+const PERIOD_128: [u64; 9] = [5, 1, 1, 1, 5, 640, 0, 640, 39063];
 
 const LONGEST: [u64; 9] = [5, 1, 1, 1, 5, 83886075, 0, 83886075, 1];
 
@@ -93,6 +94,30 @@ const FOUR: [u64; 21] = [
     6,
     18,
     333334,
+];
+
+const TWO_PARENTS: [u64; 21] = [
+    6,
+    3,
+    3,
+    2,
+    1,
+    20,
+    1,
+    3,
+    30,
+    1,
+    1,
+    10,
+    0,
+    20,
+    300000,
+    0,
+    50,
+    480000,
+    50,
+    10,
+    600000,
 ];
 
 const CHILD_FIRST: [u64; 15] = [7, 2, 2, 1, 4, 40, 1, 3, 30, 40, 30, 700000, 0, 40, 700000];
@@ -130,8 +155,8 @@ fn tables() {
     );
     planned(
         b"128 is 80 01",
-        b"\x01\x80\x01\x05\x01\x05\x00",
-        &PERIOD_FIVE,
+        b"\x01\x07\x80\x01\x01\x05\x00",
+        &PERIOD_128,
     );
     planned(
         b"16,777,215 is FF FF FF 07",
@@ -151,6 +176,11 @@ fn slips() {
         b"a child listed before its parent, its offset no start",
         b"\x01\x05\x0a\x02\x03\x01\x01\x04\x00",
         &CHILD_FIRST,
+    );
+    planned(
+        b"a start is the latest finish of two parents",
+        b"\x01\x05\x0a\x03\x01\x00\x04\x00\x01\x02\x00\x01",
+        &TWO_PARENTS,
     );
     planned(
         b"deadlines are fractions of time units",

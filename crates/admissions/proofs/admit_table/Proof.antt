@@ -8,13 +8,13 @@ use lib.ListN.{length, take, drop}
 use denote.Ref.{now}
 use Rattle.refusals.specs.declared.Answer.{Answer}
 use Rattle.refusals.specs.Answer.{accepted}
-use Rattle.plans.specs.Accepted.{Accepted}
+use Rattle.shares.specs.declared.Figures.{Figures}
+use Rattle.plans.specs.Inner.Planned.{Planned}
 use Rattle.plans.specs.Diagram.{segmentCount}
 use Rattle.plans.specs.Calls.{onTable}
 use Rattle.plans.specs.Words.{wordCount, written}
-use Rattle.boards.specs.declared.Row.{Row}
+use Rattle.plans.proofs.Figures.{nodePart, plan-fits, part-lent, figures-in, figures-read}
 use Rattle.admissions.specs.Admission.{Admission, rowOf, notAdmitted, entered}
-use Rattle.admissions.proofs.Row.{nodePart, plan-fits, part-lent, figures-in, row-read}
 use Rattle.admissions.proofs.Tests.{table-out, table-in}
 use Rattle.admissions.proofs.admit_table.Statement.{statement}
 use Rattle.admissions.proofs.admit_table.Tie as tie
@@ -36,12 +36,11 @@ returns c =
     let m = c .before .before .before .before .before .before in
     let p = m .before .before .before in
     let a = p .before .before .args in
-    let made = m .plan-table .ensures .0 in
-    let e = table-out (a .board .rows) (now (a .words)) (a .table) (p .placed .result) (p .placed .ensures .0) (made .0) (made .1) (c .before .if1 .taken) in
+    let e = table-out (a .board .rows) (now (a .words)) (a .table) (p .placed .result) (p .placed .ensures .0) (m .plan-table .ensures .0) (c .before .if1 .taken) in
     (c .unchanged .ensures ∙ sym (ap (λ (x : Admission). x .change) e), rw (c .unchanged .ensures) (omega arith), sym (ap (λ (x : Admission). x .words) e))
 
 -- past the test the table has a plan
-accepts : (c : tie.Else1) → Accepted (c .before .before .before .before .before .before .before .before .before .before .args .table)
+accepts : (c : tie.Else1) → Planned (c .before .before .before .before .before .before .before .before .before .before .args .table)
 accepts c = c .before .before .before .before .before .plan-table .ensures .1 (c .if1 .left) .table
 
 -- so its words are written, and its row goes to the place found
@@ -52,8 +51,7 @@ enters c =
     let m = c .before .before .before .before .before in
     let p = m .before .before .before in
     let a = p .before .before .args in
-    let made = m .plan-table .ensures .0 in
-    table-in (a .board .rows) (now (a .words)) (a .table) (p .placed .result) (p .placed .ensures .0) (made .0) (made .1) (c .if1 .left) (accepts c)
+    table-in (a .board .rows) (now (a .words)) (a .table) (p .placed .result) (p .placed .ensures .0) (m .plan-table .ensures .0) (c .if1 .left) (accepts c)
 
 -- how many words there are
 count : (c : tie.Else1) → (let m = c .before .before .before .before .before in let t = m .before .before .before .before .before .args .table in m .plan-table .result .answer .value ≡ wordCount (segmentCount t) (t .count))
@@ -64,6 +62,20 @@ part : (c : tie.Else1) → (let m = c .before .before .before .before .before in
 part c =
     let a = c .before .before .before .before .before .before .before .before .before .before .args in
     part-lent (a .table) (now (a .words)) (enters c .1) (omega (arith, count c))
+
+-- so the row is the task's
+returns-2 : tie.Need-returns-2
+returns-2 c =
+    let e = c .before .before .before in
+    let p = e .before .before .before .before .before .before .before .before in
+    let a = p .before .before .args in
+    let t = a .table in
+    let same = c .figures-of .ensures ∙ figures-read t (now (a .words)) (part e) in
+    let so = enters e .2 in (
+      ap (λ (f : Figures). record { at = p .placed .result .at; row = record { id = t .id; nodes = t .count; sum = f .sum; largest = f .largest }; answer = p .placed .result .answer }) same ∙ sym (ap (λ (x : Admission). x .change) so),
+      p .placed .ensures .1,
+      enters e .1 ∙ sym (ap (λ (x : Admission). x .words) so),
+    )
 
 -- the whole plan lies in the words
 inside : (c : tie.Else1) → (let m = c .before .before .before .before .before in m .plan-table .result .answer .value ≤ length (m .plan-table .last .0))
@@ -97,18 +109,6 @@ figures-of-requires c κs =
 
 same-length-2 : tie.Need-same-length-2
 same-length-2 c = search needs
-
-returns-2 : tie.Need-returns-2
-returns-2 c =
-    let e = c .before .before .before in
-    let p = e .before .before .before .before .before .before .before .before in
-    let a = p .before .before .args in
-    let row = c .figures-of .ensures ∙ row-read (a .table) (now (a .words)) (part e) in
-    let so = enters e .2 in (
-      ap (λ (r : Row). record { at = p .placed .result .at; row = r; answer = p .placed .result .answer }) row ∙ sym (ap (λ (x : Admission). x .change) so),
-      p .placed .ensures .1,
-      enters e .1 ∙ sym (ap (λ (x : Admission). x .words) so),
-    )
 
 pub admit-table-spec : {M : Type 1} → statement M
 admit-table-spec =

@@ -7,9 +7,10 @@ use denote.Ref.{now}
 use borrow.Author.Needs.{needs}
 use borrow.Fn.Kinds.{In}
 use borrow.Fn.PlainCycle.{Measures, is, falls, and}
+use Rattle.plain.proofs.Lists.{part-from}
 use Rattle.numbers.specs.declared.Number.the-variants.{TooLong}
 use Rattle.numbers.specs.Number.{before, number}
-use Rattle.numbers.proofs.Cases.{part-from, decided, needs-more, follows}
+use Rattle.numbers.proofs.Cases.{decided, needs-more, follows}
 use Rattle.numbers.proofs.number_within.Reads as reads
 use Rattle.numbers.proofs.number_within.Kinds as kinds
 use Rattle.numbers.proofs.+number_within.Lts-number_within as lts

@@ -7,7 +7,7 @@ use Rattle.numbers.proofs.one_byte.Statement.{statement}
 use Rattle.numbers.proofs.one_byte.Tie as tie
 
 returns : tie.Need-returns
-returns c = sym (none _ (c .if1 .taken))
+returns c = sym (none _ _ (c .if1 .taken))
 
 shared-slice-read-wide : tie.Need-shared-slice-read-wide
 shared-slice-read-wide c = search needs

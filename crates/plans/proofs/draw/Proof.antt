@@ -1,41 +1,40 @@
 -- `plans::draw` meets its contract: the order is whole just where no node is reached from itself; along it begins and ends are the table's starts
 -- and finishes, and a whole order lists every node, so it can be lined up by these.
-use mathlib.Core.Path.{_≡_, sym, _∙_, subst, fun-ext}
+use mathlib.Core.Path.{_≡_, refl, sym, ap, _∙_, subst, fun-ext}
 use mathlib.Core.Bool.{false}
 use mathlib.Core.List.{List}
 use Prim.Native.Nat.{ℕ, _^_, _≤_}
 use native.Mathlib.Omega.{arith}
 use borrow.Author.Needs.{needs}
 use Rattle.plain.specs.At.{at}
-use Rattle.tables.specs.declared.TaskTable.{TaskTable}
-use Rattle.tables.specs.Limits.{executionMax}
-use Rattle.tables.specs.Range.{InRange}
-use Rattle.lineups.specs.LinedUp.{Listing, LinedUp}
-use Rattle.ways.specs.Reaches.{Tidy}
+use Rattle.refusals.specs.declared.Outcome.the-variants.{Refused}
+use Rattle.tables.specs.Inner.Limits.{runMax}
+use Rattle.lineups.specs.Inner.LinedUp.{Listing, LinedUp}
 use Rattle.ways.specs.Closure.{loops}
-use Rattle.ways.specs.Order.{Ordered}
+use Rattle.ways.specs.Inner.Order.{Ordered}
 use Rattle.ways.proofs.Orders.{whole, short-loops, whole-loops, whole-order}
 use Rattle.ways.proofs.Totals.{path-by}
 use Rattle.plans.specs.Diagram.{path}
+use Rattle.plans.proofs.Table.{tidy}
 use Rattle.plans.proofs.Tests.{on-loop, on-long, on-fits, not-both}
 use Rattle.plans.proofs.draw.Statement.{statement}
 use Rattle.plans.proofs.draw.Tie as tie
 
--- the parents of a table in range are words over its nodes
-tidy : {t : TaskTable} → InRange t → Tidy (t .parents) (t .count)
-tidy r = record { past = r .parents-past; word = r .parents-below }
-
 order-of-requires : tie.Need-order-of-requires
 order-of-requires c κs = let p = c .before .before .before .before .pre in (p .0 .count-high, tidy (p .0), p .3)
 
-undrawn-requires : tie.Need-undrawn-requires
-undrawn-requires c κs = search needs
+of-requires : tie.Need-of-requires
+of-requires c κs = search needs
+
+no-drawing-requires : tie.Need-no-drawing-requires
+no-drawing-requires c κs = search needs
 
 returns : tie.Need-returns
 returns c =
-    let o = c .before .before in
-    let looped = short-loops (o .order-of .ensures) (c .before .if1 .taken) in
-    (c .undrawn .ensures ∙ sym (on-loop _ _ (o .before .before .before .before .before .args .table) looped), λ e. absurd (not-both (c .undrawn .ensures) e))
+    let test = c .before .before in
+    let o = test .before in
+    let looped = short-loops (o .order-of .ensures) (test .if1 .taken) in
+    (c .no-drawing .ensures ∙ ap Refused (c .before .of .ensures) ∙ sym (on-loop _ _ (o .before .before .before .before .before .args .table) looped), λ e. absurd (not-both (c .no-drawing .ensures) e))
 
 -- past the first test the order is whole, and lists every node
 ordered : (c : tie.Else1) → (let o = c .before in let t = o .before .before .before .before .before .args .table in Ordered (t .parents) (t .count) (t .count) (o .order-of .last .0))
@@ -52,14 +51,14 @@ lined-as : {n : ℕ} {R T : ℕ → ℕ} {l : List ℕ} → ((v : ℕ) → R v �
 lined-as {n} {l = l} e h = subst (λ (X : ℕ → ℕ). LinedUp n X l) (fun-ext e) h
 
 -- an execution is small enough for any sum of ends
-light : {x : ℕ} → x ≤ executionMax → x ≤ 2 ^ 57
+light : {x : ℕ} → x ≤ runMax → x ≤ 2 ^ 57
 light h = omega arith
 
 times-of-requires : tie.Need-times-of-requires
 times-of-requires c κs =
     let e = c .before .before .before .before .before in
     let p = e .before .before .before .before .before .before .pre in
-    (p .0 .count-high, tidy (p .0), (λ v. light (p .0 .execution-high v)), ordered e, p .1, p .2)
+    (p .0 .count-high, tidy (p .0), (λ v. light (p .0 .run-high v)), ordered e, p .1, p .2)
 
 path-of-requires : tie.Need-path-of-requires
 path-of-requires c κs = search needs
@@ -72,13 +71,17 @@ past c = c .before .before .before .before .before .before .before .before
 path-so : (c : tie.After-path-of) → (let t = c .before .before .before .before .before .before .before .before .before .before .before .before .before .before .args .table in c .path-of .result ≡ path t)
 path-so c = c .path-of .ensures ∙ path-by _ _ _ _ (c .before .before .times-of .ensures .1)
 
-undrawn-requires-2 : tie.Need-undrawn-requires-2
-undrawn-requires-2 c κs = search needs
+of-requires-2 : tie.Need-of-requires-2
+of-requires-2 c κs = search needs
+
+no-drawing-requires-2 : tie.Need-no-drawing-requires-2
+no-drawing-requires-2 c κs = search needs
 
 returns-2 : tie.Need-returns-2
 returns-2 c =
-    let p = c .before .before .before in
-    (c .undrawn2 .ensures ∙ sym (on-long _ _ _ (free (past p)) (rw (path-so p) at (c .before .if2 .taken))), λ q. absurd (not-both (c .undrawn2 .ensures) q))
+    let test = c .before .before in
+    let p = test .before .before in
+    (c .no-drawing2 .ensures ∙ ap Refused (c .before .of2 .ensures) ∙ sym (on-long _ _ _ (free (past p)) (rw (path-so p) at (test .if2 .taken))), λ q. absurd (not-both (c .no-drawing2 .ensures) q))
 
 line-up-requires : tie.Need-line-up-requires
 line-up-requires c κs =
@@ -93,7 +96,7 @@ line-up-requires-2 c κs =
 work-of-requires : tie.Need-work-of-requires
 work-of-requires c κs =
     let r = past (c .before .before .before .before .before .before .before .before .before .before) .before .before .before .before .before .before .pre .0 in
-    (r .count-high, λ v. light (r .execution-high v))
+    (r .count-high, λ v. light (r .run-high v))
 
 returns-3 : tie.Need-returns-3
 returns-3 c =
@@ -104,17 +107,20 @@ returns-3 c =
     let times = p .before .before .times-of .ensures in
     let fits = rw (path-so p) at (fitted .if2 .left) in (
       sym (on-fits _ _ _ (free (past p)) fits),
-      λ q. record {
-        lined = record {
-          table = record { range = past p .before .before .before .before .before .before .pre .0; free = free (past p); fits = fits };
-          starts = times .0;
-          finishes = times .1;
-          starting = lined-as (times .0) (first .line-up .ensures);
-          finishing = lined-as (times .1) (second .line-up2 .ensures);
-        };
-        work = c .work-of .ensures;
-        path = path-so p;
-      },
+      λ q. (
+        refl,
+        record {
+          lined = record {
+            table = record { range = past p .before .before .before .before .before .before .pre .0; free = free (past p); fits = fits };
+            starts = times .0;
+            finishes = times .1;
+            starting = lined-as (times .0) (first .line-up .ensures);
+            finishing = lined-as (times .1) (second .line-up2 .ensures);
+          };
+          work = c .work-of .ensures;
+          path = path-so p;
+        },
+      ),
     )
 
 pub draw-spec : {M : Type 1} → statement M
@@ -122,11 +128,13 @@ draw-spec =
     tie.close
     (tie.spec
     order-of-requires
-    undrawn-requires
+    of-requires
+    no-drawing-requires
     returns
     times-of-requires
     path-of-requires
-    undrawn-requires-2
+    of-requires-2
+    no-drawing-requires-2
     returns-2
     line-up-requires
     line-up-requires-2

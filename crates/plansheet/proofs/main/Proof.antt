@@ -39,16 +39,13 @@ array-share-prefix-out : tie.Need-array-share-prefix-out
 array-share-prefix-out c = search needs
 
 slice-aggregate-write-all-2 : tie.Need-slice-aggregate-write-all-2
-slice-aggregate-write-all-2 c = simp length-take (omega (arith, c .before .before .before .sheet .kept .1 .0))
+slice-aggregate-write-all-2 c = simp length-take (omega (arith, c .before .before .sheet .kept .1 .0))
 
 write-all-requires-2 : tie.Need-write-all-requires-2
 write-all-requires-2 c κs = search needs
 
 returns-2 : tie.Need-returns-2
 returns-2 c = search needs
-
-returns-3 : tie.Need-returns-3
-returns-3 c = search needs
 
 pub main-spec : {M : Type 1} → statement M
 main-spec =
@@ -67,5 +64,4 @@ main-spec =
     array-share-prefix-out
     slice-aggregate-write-all-2
     write-all-requires-2
-    returns-2
-    returns-3)
+    returns-2)

@@ -1,7 +1,7 @@
--- `records::read_parents` meets its contract. The loop goes on from the short way's run with the same invariant: the parents still to be read,
--- put into the set so far, make the whole set; the set holds only numbers below `low`.
+-- `records::read_parents` meets its contract. The loop's invariant: the parents still to be read, put into the set so far, make the whole set;
+-- the set holds only numbers below `low`.
 use Prim.Native.Nat.{_+_, _-_, _^_, _≤_, _<_}
-use mathlib.Core.Path.{_≡_, sym, _∙_}
+use mathlib.Core.Path.{_≡_, refl, sym, _∙_}
 use native.Mathlib.Omega.{arith}
 use lib.ListN.{length}
 use denote.Ref.{now}
@@ -20,11 +20,8 @@ Inv-loop bytes from count n left₀ low₀ set₀ at₀ left low set at =
 abbrev μ-loop : tie.MeasureT-loop
 μ-loop bytes from count n left₀ low₀ set₀ at₀ left low set at = left
 
-short-parents-requires : tie.Need-short-parents-requires Inv-loop μ-loop
-short-parents-requires c κs = search needs
-
 loop-holds : tie.Need-loop-holds Inv-loop μ-loop
-loop-holds c = let r = c .short-parents .ensures in (sym (r .0), r .1 .0, r .1 .1, r .1 .2)
+loop-holds c = (refl, omega arith, omega arith, omega arith)
 
 sub-read-ranged : tie.Need-sub-read-ranged Inv-loop μ-loop
 sub-read-ranged c = search needs
@@ -39,7 +36,7 @@ enum-told : tie.Need-enum-told Inv-loop μ-loop
 enum-told c = search needs
 
 -- the parent that a turn read
-parent : (c : tie.After-step Inv-loop μ-loop) → (let h = c .before .before .before .before in let a = h .before .before .before .args in
+parent : (c : tie.After-step Inv-loop μ-loop) → (let h = c .before .before .before .before in let a = h .before .before .args in
     Passed badParent (h .loop .low) (a .n - 1) (now (a .bytes)) (h .loop .at) (c .step .given .0 .0) (c .step .given .0 .1 .0))
 parent c = passed _ _ _ _ _ _ _ _ (c .before .before .read-ranged .ensures) (c .step .given .1) (omega arith)
 
@@ -81,7 +78,6 @@ read-parents-spec =
     (tie.spec
     Inv-loop
     μ-loop
-    short-parents-requires
     loop-holds
     sub-read-ranged
     read-ranged-requires

@@ -1,28 +1,28 @@
--- `records::read_record` meets its contract: its two steps are the first two of `readingOf`, and the call after them is the rest.
+-- `records::read_record` meets its contract: its two pairs of numbers are the four of `readingOf`'s head, and the nodes after them are the rest.
+use Prim.Native.Nat.{ℕ}
 use mathlib.Core.Path.{sym, _∙_}
 use native.Mathlib.Omega.{arith}
 use denote.Ref.{now}
 use borrow.Author.Needs.{needs}
-use Rattle.refusals.specs.Numbers.{badEdition, badId}
-use Rattle.tables.specs.Limits.{idMax}
-use Rattle.records.specs.Reading.{edition, readingOf}
-use Rattle.records.proofs.Cases.{then-read, then-out}
-use Rattle.records.proofs.Inside.{Passed, passed}
+use Rattle.refusals.specs.Numbers.{badId, badCount}
+use Rattle.tables.specs.Limits.{idMax, countMax}
+use Rattle.records.specs.Reading.{readingOf}
+use Rattle.records.proofs.Cases.{then-read, then-refused, then-two}
+use Rattle.records.proofs.Inside.{Passed, two-passed}
 use Rattle.records.proofs.read_record.Statement.{statement}
 use Rattle.records.proofs.read_record.Tie as tie
 
--- the edition and the id
-first : (c : tie.After-first) →
-    Passed badEdition edition edition (now (c .before .before .before .before .args .bytes)) 0 (c .first .given .0 .0) (c .first .given .0 .1 .0)
-first c = passed _ _ _ _ _ _ _ _ (c .before .before .read-ranged .ensures) (c .first .given .1) (omega arith)
+-- the id and the node count, each from the place after the number before it
+id : (c : tie.After-first) →
+    (place : ℕ) × Passed badId 1 idMax (now (c .before .before .before .before .args .bytes)) place (c .first .given .0 .0) (c .first .given .0 .1 .0)
+id c = two-passed _ _ _ _ _ _ _ _ _ (c .before .before .read-two .ensures) (c .first .given .1) (omega arith)
 
-second : (c : tie.After-second) → (let f = c .before .before .before .before in
-    Passed badId 1 idMax (now (f .before .before .before .before .args .bytes)) (f .first .given .0 .1 .0) (c .second .given .0 .0) (c .second .given .0 .1 .0))
-second c = let f = first (c .before .before .before .before) in
-    passed _ _ _ _ _ _ _ _ (c .before .before .read-ranged2 .ensures) (c .second .given .1) (omega arith)
+count : (c : tie.After-second) →
+    (place : ℕ) × Passed badCount 1 countMax (now (c .before .before .before .before .before .before .before .before .args .bytes)) place (c .second .given .0 .0) (c .second .given .0 .1 .0)
+count c = two-passed _ _ _ _ _ _ _ _ _ (c .before .before .read-two2 .ensures) (c .second .given .1) (id (c .before .before .before .before) .1 .inside)
 
-read-ranged-requires : tie.Need-read-ranged-requires
-read-ranged-requires c κs = search needs
+read-two-requires : tie.Need-read-two-requires
+read-two-requires c κs = search needs
 
 enum-known-first : tie.Need-enum-known-first
 enum-known-first c = search needs
@@ -35,11 +35,11 @@ rejected-requires c κs = search needs
 
 returns : tie.Need-returns
 unfolding readingOf
-returns c =
-    c .rejected .ensures ∙ then-out _ _ _ _ _ _ (c .before .before .before .read-ranged .ensures) (c .before .enum-told .given .1)
+returns c = let e = c .before .enum-told .given .1 in
+    c .rejected .ensures ∙ then-refused _ _ _ _ e ∙ sym (then-two _ _ _ _ _ (c .before .before .before .read-two .ensures) ∙ then-refused _ _ _ _ e)
 
-read-ranged-requires-2 : tie.Need-read-ranged-requires-2
-read-ranged-requires-2 c κs = first (c .before) .inside
+read-two-requires-2 : tie.Need-read-two-requires-2
+read-two-requires-2 c κs = id (c .before) .1 .inside
 
 enum-known-second : tie.Need-enum-known-second
 enum-known-second c = search needs
@@ -52,31 +52,34 @@ rejected-requires-2 c κs = search needs
 
 returns-2 : tie.Need-returns-2
 unfolding readingOf
-returns-2 c =
-    c .rejected2 .ensures ∙ then-out _ _ _ _ _ _ (c .before .before .before .read-ranged2 .ensures) (c .before .enum-told2 .given .1)
-    ∙ sym (then-read _ _ _ _ _ (first (c .before .before .before .before .before) .is))
+returns-2 c = let e = c .before .enum-told2 .given .1 in let f = c .before .before .before .before .before in
+    c .rejected2 .ensures ∙ then-refused _ _ _ _ e
+    ∙ sym (then-two _ _ _ _ _ (f .before .before .read-two .ensures) ∙ then-read _ _ _ _ _ (f .first .given .1)
+    ∙ then-two _ _ _ _ _ (c .before .before .before .read-two2 .ensures) ∙ then-refused _ _ _ _ e)
 
-read-from-period-requires : tie.Need-read-from-period-requires
-read-from-period-requires c κs = second (c .before) .inside
+read-nodes-requires : tie.Need-read-nodes-requires
+read-nodes-requires c κs = let p = count (c .before) .1 in omega arith
 
 returns-3 : tie.Need-returns-3
 unfolding readingOf
-returns-3 c = let p = c .before .before in
-    c .read-from-period .ensures ∙ sym (then-read _ _ _ _ _ (first (p .before .before .before .before) .is) ∙ then-read _ _ _ _ _ (second p .is))
+returns-3 c = let s = c .before .before in let f = s .before .before .before .before in
+    c .read-nodes .ensures
+    ∙ sym (then-two _ _ _ _ _ (f .before .before .read-two .ensures) ∙ then-read _ _ _ _ _ (f .first .given .1)
+    ∙ then-two _ _ _ _ _ (s .before .before .read-two2 .ensures) ∙ then-read _ _ _ _ _ (s .second .given .1))
 
 pub read-record-spec : {M : Type 1} → statement M
 read-record-spec =
     tie.close
     (tie.spec
-    read-ranged-requires
+    read-two-requires
     enum-known-first
     enum-told
     rejected-requires
     returns
-    read-ranged-requires-2
+    read-two-requires-2
     enum-known-second
     enum-told-2
     rejected-requires-2
     returns-2
-    read-from-period-requires
+    read-nodes-requires
     returns-3)

@@ -9,8 +9,8 @@ use lib.Bits.{bitAnd}
 use lib.ListN.{length-set}
 use Rattle.plain.specs.At.{at}
 use Rattle.segments.specs.Cut.{cut, segments}
-use Rattle.segments.specs.Words.{CutWords}
-use Rattle.segments.specs.Along.{Behind, ReachedBy}
+use Rattle.segments.specs.Inner.Words.{CutWords}
+use Rattle.segments.specs.Inner.Along.{Behind, ReachedBy}
 use Rattle.segments.proofs.Cuts.{cut-none}
 use Rattle.segments.proofs.Words.{words-none, words-more}
 use Rattle.segments.proofs.Along.{behind-none, behind-later}

@@ -2,7 +2,7 @@
 use Prim.Native.Nat.{_-_, _<_}
 use native.Mathlib.Omega.{arith}
 use Rattle.plain.specs.At.{at}
-use Rattle.segments.specs.Along.{Behind}
+use Rattle.segments.specs.Inner.Along.{Behind}
 use Rattle.segments.proofs.Along.{behind-more}
 use Rattle.segments.proofs.reached.Statement.{statement}
 use Rattle.segments.proofs.reached.Tie as tie

@@ -5,7 +5,7 @@ use native.Mathlib.Omega.{arith}
 use borrow.Author.Needs.{needs}
 use Rattle.shares.specs.declared.Kinds.{Kinds}
 use Rattle.shares.specs.Heavy.{heavies}
-use Rattle.shares.specs.Words.{threadsAt}
+use Rattle.shares.specs.Inner.Words.{threadsAt}
 use Rattle.shares.proofs.Deals.{deal-heavy, deal-light, deal-both}
 use Rattle.shares.proofs.Fair.{heavy-whole, light-whole}
 use Rattle.shares.proofs.deal_of.Statement.{statement}
@@ -16,10 +16,10 @@ count : (k : tie.After-kinds-of) → let a = k .before .before .args in k .kinds
 count k = ap (λ (r : Kinds). r .heavies) (k .kinds-of .ensures)
 
 work-high : (k : tie.After-kinds-of) → k .kinds-of .result .work ≤ k .before .before .args .work
-work-high k = rw (k .kinds-of .ensures) (heavy-whole (k .before .before .pre .cutting))
+work-high k = rw (k .kinds-of .ensures) (heavy-whole (k .before .before .pre .segmented))
 
 length-high : (k : tie.After-kinds-of) → k .kinds-of .result .length ≤ k .before .before .args .path
-length-high k = rw (k .kinds-of .ensures) (light-whole (k .before .before .pre .cutting))
+length-high k = rw (k .kinds-of .ensures) (light-whole (k .before .before .pre .segmented))
 
 kinds-of-requires : tie.Need-kinds-of-requires
 kinds-of-requires c κs = search needs

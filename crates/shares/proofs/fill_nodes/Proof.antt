@@ -58,14 +58,14 @@ mul-out-3 c = omega arith
 slice-write-out-2 : tie.Need-slice-write-out-2 Inv-loop μ-loop
 slice-write-out-2 c = simp length-set (omega arith)
 
-mul-density : tie.Need-mul-density Inv-loop μ-loop
-mul-density c = omega arith
+mul-millionths : tie.Need-mul-millionths Inv-loop μ-loop
+mul-millionths c = omega arith
 
-element-copy-out-density : tie.Need-element-copy-out-density Inv-loop μ-loop
-element-copy-out-density c = omega arith
+element-copy-out-millionths : tie.Need-element-copy-out-millionths Inv-loop μ-loop
+element-copy-out-millionths c = omega arith
 
-density-requires : tie.Need-density-requires Inv-loop μ-loop
-density-requires c κs = c .before .before .before .before .before .before .before .pre .each _ (omega arith)
+millionths-requires : tie.Need-millionths-requires Inv-loop μ-loop
+millionths-requires c κs = c .before .before .before .before .before .before .before .pre .each _ (omega arith)
 
 add-out-2 : tie.Need-add-out-2 Inv-loop μ-loop
 add-out-2 c = omega arith
@@ -85,7 +85,7 @@ loop-less c = omega arith
 loop-again : tie.Need-loop-again Inv-loop μ-loop
 loop-again c =
     let l = c .before .before .before .before .before .before .loop in
-    (omega arith, simp length-set (l .inv .1), tripled-more _ _ _ (l .inv .2) (omega arith) refl refl (c .density .ensures))
+    (omega arith, simp length-set (l .inv .1), tripled-more _ _ _ (l .inv .2) (omega arith) refl refl (c .millionths .ensures))
 
 same-length : tie.Need-same-length Inv-loop μ-loop
 same-length c = omega arith
@@ -113,9 +113,9 @@ fill-nodes-spec =
     add-out
     mul-out-3
     slice-write-out-2
-    mul-density
-    element-copy-out-density
-    density-requires
+    mul-millionths
+    element-copy-out-millionths
+    millionths-requires
     add-out-2
     mul-out-4
     slice-write-out-3

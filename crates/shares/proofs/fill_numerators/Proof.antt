@@ -2,7 +2,7 @@
 use mathlib.Core.Path.{_≡_}
 use Prim.Native.Nat.{_-_, _≤_}
 use native.Mathlib.Omega.{arith}
-use Rattle.shares.specs.Written.{Numbered}
+use Rattle.shares.specs.Inner.Written.{Numbered}
 use Rattle.shares.proofs.Numbering.{numbered-none, numbered-more, threads-kept, lengths-kept}
 use Rattle.shares.proofs.fill_numerators.Statement.{statement}
 use Rattle.shares.proofs.fill_numerators.Tie as tie

@@ -3,7 +3,7 @@ use mathlib.Core.Path.{_≡_, sym, _∙_}
 use mathlib.Core.Logic.{⊎-elim}
 use Prim.Native.Nat.{_+_, _*_, _-_, _≤_}
 use native.Mathlib.Omega.{arith}
-use Rattle.shares.specs.Words.{threadsAt, lengthAt}
+use Rattle.shares.specs.Inner.Words.{threadsAt, lengthAt}
 use Rattle.shares.proofs.Heavies.{Counted, counted-none, counted-heavy, counted-light, heavies-le, heavy-under, light-under}
 use Rattle.shares.proofs.kinds_of.Statement.{statement}
 use Rattle.shares.proofs.kinds_of.Tie as tie
@@ -21,7 +21,7 @@ room c =
     let l = c .before .loop in
     let m = threadsAt (a .words .now) in
     let e = lengthAt (a .words .now) in
-    let cut = c .before .before .before .pre .cutting in
+    let cut = c .before .before .before .pre .segmented in
     let i = l .inv .1 in
     (omega (arith, heavies-le (a .period) (a .work) (a .path) (l .j) m e), omega (arith, heavy-under (a .period) (a .work) (a .path) (a .s) m e (l .j) (c .loop-test .taken)), omega (arith, light-under (a .period) (a .work) (a .path) (a .s) m e (l .j) (c .loop-test .taken)))
 
@@ -55,7 +55,7 @@ shared-slice-read-e c = omega arith
 is-heavy-requires : tie.Need-is-heavy-requires Inv-loop μ-loop
 is-heavy-requires c κs =
     let p = c .before .before .before .before .before .pre in
-    record { period = p .period; path = p .cutting .within; threads = p .threads _ (c .before .before .loop-test .taken) }
+    record { period = p .period; path = p .segmented .within; threads = p .threads _ (c .before .before .loop-test .taken) }
 
 add-heavies : tie.Need-add-heavies Inv-loop μ-loop
 add-heavies c = let r = room (c .before .before .before .before) in omega arith

@@ -3,16 +3,16 @@ use mathlib.Core.Path.{_≡_}
 use Prim.Native.Nat.{_+_, _-_, _≤_, _<_}
 use native.Mathlib.Omega.{arith}
 use Rattle.plain.specs.At.{at}
-use Rattle.shares.specs.Words.{stretchedIn}
-use Rattle.shares.specs.Walks.{Along}
+use Rattle.plain.proofs.Lists.{Passed, pass-none, pass-more, pass-has}
+use Rattle.shares.specs.Inner.Words.{stretchedIn}
+use Rattle.shares.specs.Inner.Walks.{Along}
 use Rattle.shares.proofs.Walks.{along-none, along-later, walked-is}
-use Rattle.shares.proofs.Filling.{Met, met-none, met-more, met-all}
 use Rattle.shares.proofs.stretched.Statement.{statement}
 use Rattle.shares.proofs.stretched.Tie as tie
 
 abbrev Inv-loop : tie.InvT-loop
 Inv-loop words s times lineup n result₀ mark₀ i₀ result mark i =
-    (i ≤ n) × Met (λ v. stretchedIn words s (at times v)) 64 lineup i result × (i < n → Along words s (at times (at lineup i)) mark)
+    (i ≤ n) × Passed (λ v. stretchedIn words s (at times v)) 64 lineup i result × (i < n → Along words s (at times (at lineup i)) mark)
 
 abbrev μ-loop : tie.MeasureT-loop
 μ-loop words s times lineup n result₀ mark₀ i₀ result mark i = n - i
@@ -22,7 +22,7 @@ below : (c : tie.In-loop Inv-loop μ-loop) → at (c .before .before .before .ar
 below c = let p = c .before .before .before .pre in omega (arith, p .2 .listing .node _ (c .loop-test .taken))
 
 loop-holds : tie.Need-loop-holds Inv-loop μ-loop
-loop-holds c = (omega arith, met-none, λ h. along-none)
+loop-holds c = (omega arith, pass-none, λ h. along-none)
 
 mul-v : tie.Need-mul-v Inv-loop μ-loop
 mul-v c = omega arith
@@ -43,7 +43,7 @@ mul-result : tie.Need-mul-result Inv-loop μ-loop
 mul-result c = omega (arith, below (c .before .before .before))
 
 array-write-result : tie.Need-array-write-result Inv-loop μ-loop
-array-write-result c = below (c .before .before .before)
+array-write-result c = omega (arith, below (c .before .before .before))
 
 add-i : tie.Need-add-i Inv-loop μ-loop
 add-i c = omega arith
@@ -56,14 +56,14 @@ loop-again c =
     let b = c .before .before .before in
     let l = b .before .loop in
     let r = c .walked-to .ensures in
-    (omega arith, met-more _ (below b) (walked-is r) (l .inv .1), λ h. along-later (b .before .before .before .pre .2 .rising (l .i) (l .i + 1) (omega arith) h) (r .along))
+    (omega arith, pass-more _ (below b) (walked-is r) (l .inv .1), λ h. along-later (b .before .before .before .pre .2 .rising (l .i) (l .i + 1) (omega arith) h) (r .along))
 
 returns : tie.Need-returns Inv-loop μ-loop
 returns c =
     let l = c .before .loop in
     let b = c .before .before .before in
     let e : l .i ≡ b .args .n = omega arith in
-    met-all (b .pre .2 .listing) (rw e at (l .inv .1))
+    λ v h. pass-has (rw e at (l .inv .1)) (b .pre .2 .listing .all v h)
 
 pub stretched-spec : {M : Type 1} → statement M
 stretched-spec =

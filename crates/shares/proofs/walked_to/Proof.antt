@@ -1,7 +1,7 @@
 -- `shares::walked_to` meets its contract: each turn passes one segment that ends by t, and the walk stops at the first that ends after it.
 use Prim.Native.Nat.{_-_}
 use native.Mathlib.Omega.{arith}
-use Rattle.shares.specs.Walks.{Along}
+use Rattle.shares.specs.Inner.Walks.{Along}
 use Rattle.shares.proofs.Walks.{along-more, along-fits, walked-all, walked-here}
 use Rattle.shares.proofs.walked_to.Statement.{statement}
 use Rattle.shares.proofs.walked_to.Tie as tie

@@ -13,8 +13,7 @@ slice-aggregate-put-line-of-two-2 c = search needs
 
 put-line-of-two-requires : tie.Need-put-line-of-two-requires
 put-line-of-two-requires c κs =
-    let a = c .before .before .before .before .args in
-    record { fits = omega (arith, refusal-fits (a .number) (a .place)) }
+    record { fits = omega (arith, refusal-fits (c .before .before .before .before .args .refusal)) }
 
 same-length : tie.Need-same-length
 same-length c = search needs

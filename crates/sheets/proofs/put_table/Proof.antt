@@ -5,16 +5,34 @@ use Prim.Native.Nat.{ℕ}
 use lib.ListN.{replicate}
 use native.Mathlib.Omega.{arith}
 use borrow.Author.Needs.{needs}
-use denote.Ref.{now}
-use Rattle.plans.specs.Calls.{Planned, onTable, unplanned, planned}
+use Rattle.refusals.specs.Answer.{accepted}
+use Rattle.refusals.specs.After.{After}
+use Rattle.plans.specs.Calls.{unplanned, planned}
 use Rattle.plans.specs.Words.{wordsMax, written}
-use Rattle.plans.specs.Drawn.{Totalled}
+use Rattle.plans.specs.Inner.Drawn.{Totalled}
+use Rattle.plans.specs.Inner.Table.{tablePlan}
 use Rattle.plans.proofs.Tests.{on-fits}
 use Rattle.sheets.specs.Lines.{refusedLine}
 use Rattle.sheets.specs.Printed.{tableSheet}
-use Rattle.sheets.proofs.Printing.{fronts-same, refused-line, printable}
+use Rattle.sheets.proofs.Printing.{wrote-same, refused-line, printable}
 use Rattle.sheets.proofs.put_table.Statement.{statement}
 use Rattle.sheets.proofs.put_table.Tie as tie
+
+-- the words before the plan
+abbrev zeros : List ℕ
+zeros = replicate wordsMax 0
+
+-- no later rule refuses, so that planning is the plain call
+plans : (c : tie.After-plan-table) → record { answer = c .plan-table .result .answer; lent = c .plan-table .last .0 } ≡ tablePlan (accepted 0) zeros (c .before .before .before .before .args .table)
+plans c = rw (c .before .accepted .ensures) at (c .plan-table .ensures .0)
+
+returns : tie.Need-returns
+returns c =
+    let r = c .before .before in
+    let n = r .before .before .before in
+    let p = n .before .before .before .before in
+    let answered = ap (λ (x : After (List ℕ)). x .answer) (plans p) in
+    wrote-same (ap refusedLine (r .before .of .ensures) ∙ refused-line zeros (p .before .before .before .before .args .table) answered (n .if1 .taken)) (r .put-refusal .ensures)
 
 slice-aggregate-plan-table : tie.Need-slice-aggregate-plan-table
 slice-aggregate-plan-table c = search needs
@@ -25,28 +43,14 @@ accepted-requires c κs = search needs
 plan-table-requires : tie.Need-plan-table-requires
 plan-table-requires c κs = (c .before .before .before .pre .1, omega arith)
 
--- the words before the plan
-abbrev zeros : List ℕ
-zeros = replicate wordsMax 0
-
--- with no refusal held, planning is the plain call
-plans : (c : tie.After-plan-table) → (let t = c .before .before .before .before .args .table in
-    (c .plan-table .result .answer ≡ onTable (unplanned zeros) (planned zeros) t .answer) × (c .plan-table .last .0 ≡ onTable (unplanned zeros) (planned zeros) t .words))
-plans c = rw (c .before .accepted .ensures) at (c .plan-table .ensures .0)
+of-requires : tie.Need-of-requires
+of-requires c κs = search needs
 
 put-refusal-requires : tie.Need-put-refusal-requires
 put-refusal-requires c κs = search needs
 
 same-length : tie.Need-same-length
 same-length c = search needs
-
-returns : tie.Need-returns
-returns c =
-    let r = c .before .before in
-    let n = r .before .before in
-    let p = n .before .before .before .before in
-    let a = p .before .before .before .before .args in
-    fronts-same (now (a .out)) (refused-line zeros (a .table) (plans p .0) (n .if1 .taken)) (r .put-refusal .ensures)
 
 -- past the test the table is accepted, and its plan stands in the words
 totals : (c : tie.Else1) → (let p = c .before .before .before .before in Totalled (p .before .before .before .before .args .table) (p .plan-table .result))
@@ -55,7 +59,7 @@ totals c = c .before .before .before .before .plan-table .ensures .1 (c .if1 .le
 words : (c : tie.Else1) → (let p = c .before .before .before .before in p .plan-table .last .0 ≡ written (p .before .before .before .before .args .table) zeros)
 words c =
     let p = c .before .before .before .before in
-    plans p .1 ∙ ap (λ (x : Planned). x .words) (on-fits (unplanned zeros) (planned zeros) (p .before .before .before .before .args .table) (totals c .table .free) (totals c .table .fits))
+    ap (λ (x : After (List ℕ)). x .lent) (plans p ∙ on-fits (unplanned zeros) (planned zeros) (p .before .before .before .before .args .table) (totals c .table .free) (totals c .table .fits))
 
 slice-aggregate-put-sheet : tie.Need-slice-aggregate-put-sheet
 slice-aggregate-put-sheet c = search needs
@@ -73,7 +77,7 @@ returns-2 c =
     let p = c .before .before in
     let e = p .before .before .before in
     let a = e .before .before .before .before .before .before .before .before .args in
-    fronts-same (now (a .out))
+    wrote-same
     (rw (totals e .work, totals e .path, words e) (sym (on-fits refusedLine tableSheet (a .table) (totals e .table .free) (totals e .table .fits))))
     (p .put-sheet .ensures)
 
@@ -84,6 +88,7 @@ put-table-spec =
     slice-aggregate-plan-table
     accepted-requires
     plan-table-requires
+    of-requires
     put-refusal-requires
     same-length
     returns

@@ -5,7 +5,7 @@ use lib.Bits.{bitAnd, and-le-r}
 use lib.Count.{trailingZeros}
 use Rattle.plain.specs.At.{at}
 use Rattle.sets.proofs.Walks.{Walk, walk}
-use Rattle.ways.specs.Waiting.{Waiting}
+use Rattle.ways.specs.Inner.Waiting.{Waiting}
 use Rattle.ways.proofs.Words.{missing}
 use Rattle.ways.proofs.Waiting.{look-room, look-settled, look-waits}
 use Rattle.ways.proofs.look.Statement.{statement}

@@ -3,7 +3,7 @@
 use Prim.Native.Nat.{_-_, _<_}
 use native.Mathlib.Omega.{arith}
 use Rattle.plain.specs.At.{at}
-use Rattle.ways.specs.Waiting.{Waiting}
+use Rattle.ways.specs.Inner.Waiting.{Waiting}
 use Rattle.ways.proofs.Waiting.{wait-none, next-low, take-next, wait-end}
 use Rattle.ways.proofs.order_of.Statement.{statement}
 use Rattle.ways.proofs.order_of.Tie as tie

@@ -4,20 +4,21 @@ use Prim.Native.Nat.{_+_, _-_, _≤_, _<_}
 use native.Mathlib.Omega.{arith}
 use borrow.Author.Needs.{needs}
 use Rattle.plain.specs.At.{at}
+use Rattle.plain.proofs.Lists.{Passed, pass-none, pass-more}
 use Rattle.ways.specs.Ways.{begins, ends}
 use Rattle.ways.proofs.Ways.{begins-past, ends-past, begin-fit}
-use Rattle.ways.proofs.Pass.{Passed, pass-none, pass-more, pass-all, pass-entry}
+use Rattle.ways.proofs.Pass.{pass-all, pass-entry}
 use Rattle.ways.proofs.times_of.Statement.{statement}
 use Rattle.ways.proofs.times_of.Tie as tie
 
 abbrev Inv-loop : tie.InvT-loop
-Inv-loop begin₀ end₀ parents weights list n i₀ begin end i = (i ≤ n) × Passed (at (begins parents weights n)) list i begin × Passed (at (ends parents weights n)) list i end
+Inv-loop begin₀ end₀ parents weights list n i₀ begin end i = (i ≤ n) × Passed (at (begins parents weights n)) 64 list i begin × Passed (at (ends parents weights n)) 64 list i end
 
 abbrev μ-loop : tie.MeasureT-loop
 μ-loop begin₀ end₀ parents weights list n i₀ begin end i = n - i
 
 loop-holds : tie.Need-loop-holds Inv-loop μ-loop
-loop-holds c = (omega arith, rw (c .pre .4) (pass-none _ _), rw (c .pre .5) (pass-none _ _))
+loop-holds c = (omega arith, rw (c .pre .4) pass-none, rw (c .pre .5) pass-none)
 
 mul-v : tie.Need-mul-v Inv-loop μ-loop
 mul-v c = omega arith

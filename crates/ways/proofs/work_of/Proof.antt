@@ -5,7 +5,7 @@ use native.Mathlib.Omega.{arith}
 use Rattle.plain.specs.At.{at}
 use Rattle.plain.specs.Sums.{sumTo}
 use Rattle.plain.proofs.Sums.{sumTo-none, sumTo-more, sum-under}
-use Rattle.ways.specs.Ways.{weightMax}
+use Rattle.ways.specs.Inner.Weights.{weightMax}
 use Rattle.ways.specs.Totals.{workOf}
 use Rattle.ways.proofs.Totals.{work-le}
 use Rattle.ways.proofs.work_of.Statement.{statement}

@@ -1,0 +1,119 @@
+// What each call on a board changes, and what it answers.
+use crate::Board;
+use crate::Change;
+use crate::ROWS;
+use crate::Row;
+use crate::places::place_of;
+use crate::soundness::is_sound;
+use crate::verdicts::verdict_for;
+use refusals::Answer;
+use refusals::Refusal;
+ghost use mathlib.Core.Path.{_≡_};
+ghost use Prim.Native.Nat.{_<_};
+ghost use lib.ListN.{set};
+ghost use Rattle.refusals.specs.Numbers.{unsoundBoard};
+ghost use Rattle.refusals.specs.Refusal.{refusal};
+ghost use Rattle.refusals.specs.Answer.{refused};
+ghost use Rattle.boards.specs.Row.{rowsMax};
+ghost use Rattle.boards.specs.Change.{unchanged, placed, withdrawn, asked};
+
+// Limit of specs/: the most cores.
+const CORES_MAX: u64 = 64;
+
+// The board with one row written.
+pub fn with_row(board: Board, at: usize, row: Row) -> Board
+    requires { ⌜ at < rowsMax ⌝ }
+    ensures { λ r. ⌜ r .rows ≡ set (board .rows) at row ⌝ }
+{
+    let mut next = board;
+    next.rows[at] = row;
+    next
+}
+
+// A refusal: every row stays as it was.
+pub fn unchanged(board: Board, answer: Answer) -> Change
+    ensures { λ r. ⌜ r ≡ unchanged (board .rows) answer ⌝ }
+{
+    let first = board.rows[0];
+    Change {
+        at: 0,
+        row: first,
+        answer,
+    }
+}
+
+// A refusal by a rule of the board, whose place is 0.
+fn refused_by(number: u64) -> Answer
+    ensures { λ r. ⌜ r ≡ refused (refusal number 0) ⌝ }
+{
+    Answer::refused(Refusal::of(number, 0))
+}
+
+// The refusal of a board that isn't sound.
+pub fn unsound() -> Answer
+    ensures { λ r. ⌜ r ≡ refused (refusal unsoundBoard 0) ⌝ }
+{
+    refused_by(Refusal::UNSOUND_BOARD)
+}
+
+// The row goes to the lowest free row.
+pub fn placed(board: Board, row: Row) -> Change
+    ensures { λ r. ⌜ (r ≡ placed (board .rows) row) × (r .at < rowsMax) ⌝ }
+{
+    let standing = place_of(board, row.id);
+    if standing < ROWS {
+        return unchanged(board, refused_by(Refusal::ID_STANDS));
+    }
+    let at = place_of(board, 0);
+    if at < ROWS {
+        Change {
+            at,
+            row,
+            answer: Answer::accepted(at as u64),
+        }
+    } else {
+        unchanged(board, refused_by(Refusal::BOARD_FULL))
+    }
+}
+
+// The row with this id becomes free.
+pub fn withdrawn(board: Board, id: u64) -> Change
+    ensures { λ r. ⌜ (r ≡ withdrawn (board .rows) id) × (r .at < rowsMax) ⌝ }
+{
+    if !is_sound(board) {
+        return unchanged(board, unsound());
+    }
+    if id == 0 {
+        return unchanged(board, refused_by(Refusal::NOT_STANDING));
+    }
+    let at = place_of(board, id);
+    if at < ROWS {
+        Change {
+            at,
+            row: Row::free(),
+            answer: Answer::accepted(at as u64),
+        }
+    } else {
+        unchanged(board, refused_by(Refusal::NOT_STANDING))
+    }
+}
+
+// The verdict for so many cores.
+pub fn asked(board: Board, cores: u64) -> Answer
+    ensures { λ r. ⌜ r ≡ asked (board .rows) cores ⌝ }
+{
+    if !is_sound(board) {
+        return unsound();
+    }
+    if cores == 0 {
+        return refused_by(Refusal::BAD_CORES);
+    }
+    if CORES_MAX < cores {
+        return refused_by(Refusal::BAD_CORES);
+    }
+    if verdict_for(board, cores) {
+        Answer::accepted(1)
+    } else {
+        Answer::accepted(0)
+    }
+}

@@ -1,0 +1,50 @@
+// The verdict of a sound board.
+use crate::Board;
+use crate::ROWS;
+use tables::MILLION;
+ghost use mathlib.Core.Path.{_≡_};
+ghost use Prim.Native.Nat.{_≤_};
+ghost use Rattle.boards.specs.Sound.{Sound};
+ghost use Rattle.boards.specs.Verdict.{sumOf, largestOf, verdict, coresMax};
+
+// S: the sum over all standing nodes.
+fn sum_of(board: Board) -> u64
+    requires { ⌜ Sound (board .rows) ⌝ }
+    ensures { λ r. ⌜ r ≡ sumOf (board .rows) ⌝ }
+{
+    let mut sum: u64 = 0;
+    let mut k: usize = 0;
+    while k < ROWS {
+        let row = board.rows[k];
+        sum += row.sum;
+        k += 1;
+    }
+    sum
+}
+
+// M: the largest of them.
+fn largest_of(board: Board) -> u64
+    ensures { λ r. ⌜ r ≡ largestOf (board .rows) ⌝ }
+{
+    let mut largest: u64 = 0;
+    let mut k: usize = 0;
+    while k < ROWS {
+        let row = board.rows[k];
+        if largest < row.largest {
+            largest = row.largest;
+        }
+        k += 1;
+    }
+    largest
+}
+
+// Whether S + (m − 1) × M ≤ m × 1,000,000 for m cores.
+pub fn verdict_for(board: Board, cores: u64) -> bool
+    requires { ⌜ Sound (board .rows) ⌝ }
+    requires { ⌜ (1 ≤ cores) × (cores ≤ coresMax) ⌝ }
+    ensures { λ r. ⌜ r ≡ verdict (board .rows) cores ⌝ }
+{
+    let sum = sum_of(board);
+    let largest = largest_of(board);
+    sum + (cores - 1) * largest <= cores * MILLION
+}

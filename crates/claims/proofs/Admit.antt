@@ -1,0 +1,123 @@
+-- Admitting answers by its rules: its cases are 16, 17, those of the record's task, and those of placing its row; an accepted one writes the plan
+-- and the row.
+use mathlib.Core.Path.{_≡_, refl}
+use mathlib.Core.Logic.{inl, inr}
+use mathlib.Core.List.{List}
+use Prim.Native.Nat.{ℕ, _≤_, _<_}
+use native.Mathlib.Omega.{arith}
+use lib.Dec.{eqb}
+use borrow.Author.Tests.{eqb-false}
+use Rattle.plain.specs.Pick.{pick}
+use Rattle.refusals.specs.Numbers.{idStands, boardFull}
+use Rattle.refusals.specs.Refusal.{refusal}
+use Rattle.refusals.specs.Answer.{accepted}
+use Rattle.tables.specs.declared.TaskTable.{TaskTable}
+use Rattle.plans.specs.Words.{written}
+use Rattle.plans.specs.Accepted.{Accepted}
+use Rattle.plans.specs.Calls.{taskOf}
+use Rattle.boards.specs.declared.Row.{Row}
+use Rattle.boards.specs.declared.Change.{Change}
+use Rattle.boards.specs.Row.{rowsMax}
+use Rattle.boards.specs.Sound.{Sound}
+use Rattle.boards.specs.Find.{placeOf, freeAt}
+use Rattle.boards.specs.Change.{changed}
+use Rattle.boards.proofs.Cases.{Placing, placing}
+use Rattle.boards.proofs.Cases.Placing.{stands as place-stands, fills as place-fills, full as place-full}
+use Rattle.admissions.specs.Admission.{Admission, rowOf, notAdmitted, entered, admission}
+use Rattle.admissions.proofs.Cases.{Admitting, admitting}
+use Rattle.admissions.proofs.Cases.Admitting.{few, unsound, tries}
+use Rattle.admissions.proofs.Keeping.{refused-kept, accepted-entered}
+use Rattle.planner.specs.Calls.{admitCall}
+use Rattle.claims.specs.Rule.{Decides, IsAccepted, IsRefused}
+use Rattle.claims.specs.Board.{IsFree, Lowest}
+use Rattle.claims.specs.Admit.{boardRules, admitRules, admitted, OfAdmitting}
+use Rattle.claims.proofs.Rule.{single, only-when, gives, not-given}
+use Rattle.claims.proofs.Promise.{promised}
+use Rattle.claims.proofs.Record.{record-singles, decided}
+use Rattle.claims.proofs.Plan.{good-plan}
+use Rattle.claims.proofs.Board.{one-lowest, some-id, no-id, some-free, no-free, lowest-free}
+
+-- entering a task that has a plan
+module _ (rows : List Row) (words : List ℕ) (t : TaskTable) where
+  -- the task's row at the lowest free place, and its plan in the words
+  abbrev pub filled : Admission
+  filled = record { change = record { at = freeAt rows; row = rowOf t; answer = accepted (freeAt rows) }; words = written t words }
+
+  -- 12; 13; else the lowest free row is filled
+  pub data Entering : Admission → Type 0 where
+    stands : placeOf (t .id) rows < rowsMax → Entering (notAdmitted rows words (refusal idStands 0))
+    full : rowsMax ≤ placeOf (t .id) rows → rowsMax ≤ freeAt rows → Entering (notAdmitted rows words (refusal boardFull 0))
+    fills : rowsMax ≤ placeOf (t .id) rows → freeAt rows < rowsMax → Entering filled
+
+  -- one of the three, as placing its row is
+  entering : Entering (entered rows words t)
+  unfolding entered
+  entering = go (placing rows (rowOf t))
+    where
+      go : {c : Change} → Placing rows (rowOf t) c → Entering (record { change = c; words = pick (eqb (c .answer .refusal) 0) (written t words) words })
+      go (place-stands h) = stands h
+      go (place-fills h f) = fills h f
+      go (place-full h f) = full h f
+
+module _ (bytes words : List ℕ) (rows : List Row) where
+  -- its rules decide its answer
+  decides : Decides (admitRules bytes words rows) (Lowest (IsFree rows)) (admission bytes words rows .change .answer)
+  decides = go (admitting bytes words rows)
+    where
+      entry : Sound rows → {x : Admission} → Entering rows words (taskOf bytes) x → Decides (boardRules bytes rows) (Lowest (IsFree rows)) (x .change .answer)
+      entry s (stands h) = inl (gives 12 (some-id s (taskOf bytes .id) h) refl)
+      entry s (full h f) = inr (not-given (no-id s (taskOf bytes .id) h), inl (gives 13 (no-free s f) refl))
+      entry s (fills h f) = inr (not-given (no-id s (taskOf bytes .id) h), inr (not-given (λ n. n (some-free s f)), (freeAt rows, lowest-free s f, refl)))
+
+      go : {x : Admission} → Admitting bytes words rows x → Decides (admitRules bytes words rows) (Lowest (IsFree rows)) (x .change .answer)
+      go (few w) = inl (gives 16 w refl)
+      go (unsound w u) = inr (not-given (λ l. omega arith), inl (gives 17 u refl))
+      go (tries w s t) =
+          inr (
+            not-given (λ l. omega arith),
+            inr (
+              not-given (λ u. u s),
+              decided (λ (x : Admission). x .change .answer) (λ r. refl) bytes (boardRules bytes rows) (Lowest (IsFree rows)) (λ e ok. entry s (entering rows words (taskOf bytes))) t,
+            ),
+          )
+
+  -- a sound board, an accepted table whose id no row has, and the lowest free row filled
+  pub record Admitted (x : Admission) : Type 0 where
+    pub sound : Sound rows
+    pub table : Accepted (taskOf bytes)
+    pub new : rowsMax ≤ placeOf (taskOf bytes .id) rows
+    pub free : freeAt rows < rowsMax
+    pub is : x ≡ filled rows words (taskOf bytes)
+
+  -- an accepted admission is that
+  pub admit-accepted : IsAccepted (admission bytes words rows .change .answer) → Admitted (admission bytes words rows)
+  admit-accepted z =
+      let w = accepted-entered bytes words rows z in
+      rw (w .2) (go (w .0) (w .1) (entering rows words (taskOf bytes)) (rw (w .2) at z))
+    where
+      go : Sound rows → Accepted (taskOf bytes) → {x : Admission} → Entering rows words (taskOf bytes) x → IsAccepted (x .change .answer) → Admitted x
+      go s ok (stands h) z = absurd (eqb-false idStands 0 refl z)
+      go s ok (full h f) z = absurd (eqb-false boardFull 0 refl z)
+      go s ok (fills h f) z = record { sound = s; table = ok; new = h; free = f; is = refl }
+
+  -- a refused one leaves everything
+  pub admit-untouched : IsRefused (admission bytes words rows .change .answer) → admitCall bytes words rows .lent ≡ record { words = words; rows = rows }
+  admit-untouched n = let kept = refused-kept bytes words rows n in rw (kept .0, kept .1)
+
+  admit-written : IsAccepted (admission bytes words rows .change .answer) → admitCall bytes words rows .lent ≡ admitted bytes words rows (admission bytes words rows .change .answer .value)
+  admit-written z = go (admit-accepted z)
+    where
+      go : {x : Admission} → Admitted x → record { words = x .words; rows = changed rows (x .change) } ≡ admitted bytes words rows (x .change .answer .value)
+      go a = rw (a .is)
+
+-- the promises
+pub of-admitting : OfAdmitting
+of-admitting = record {
+  call = λ bytes words rows. promised (admitCall bytes words rows)
+      (only-when (admitRules bytes words rows) (Lowest (IsFree rows))
+      (single _ _, (single _ _, (record-singles bytes .0, (single _ _, (single _ _, (single _ _, (single _ _, tt)))))))
+      (one-lowest (IsFree rows)) (decides bytes words rows))
+      (admit-untouched bytes words rows)
+      (admit-written bytes words rows);
+  plan = λ bytes words rows a e z. good-plan (admit-accepted bytes words rows (rw e at z) .table);
+}

@@ -1,0 +1,19 @@
+-- A promise of a call whose contract is an equation: what the contract allows is what the call comes to.
+use mathlib.Core.Path.{_≡_, sym, _∙_}
+use mathlib.Core.List.{List}
+use Prim.Native.Nat.{ℕ}
+use Rattle.refusals.specs.After.{After}
+use Rattle.claims.specs.Rule.{Rule, OnlyWhen, IsAccepted, IsRefused}
+use Rattle.claims.specs.Promise.{Promise}
+
+pub promised : {Lent : Type 0} (call : After Lent) {lent : Lent} {rules : List Rule} {value : ℕ → Type 0} {left : ℕ → Lent}
+    → OnlyWhen rules value (call .answer)
+    → (IsRefused (call .answer) → call .lent ≡ lent)
+    → (IsAccepted (call .answer) → call .lent ≡ left (call .answer .value))
+    → Promise (λ (a : After Lent). a ≡ call) lent rules value left
+promised call decided untouched written = record {
+  one-answer = λ a b p q. p ∙ sym q;
+  only-when = λ a e. rw e decided;
+  untouched = λ a e. rw e untouched;
+  written = λ a e. rw e written;
+}

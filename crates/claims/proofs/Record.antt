@@ -1,0 +1,76 @@
+-- A record's rules decide what its task comes to: in every case of the task the earlier rules are shown not to hold, and the rule of the case is.
+use mathlib.Core.Path.{_≡_, refl, sym, ap, _∙_}
+use mathlib.Core.Logic.{inl, inr}
+use mathlib.Core.Bool.{false}
+use mathlib.Core.List.{List, _++_}
+use Prim.Native.Nat.{ℕ}
+use native.Mathlib.Omega.{arith}
+use Rattle.refusals.specs.declared.Refusal.{Refusal}
+use Rattle.refusals.specs.declared.Answer.{Answer}
+use Rattle.refusals.specs.declared.Outcome.the-variants.{Accepted, Refused}
+use Rattle.refusals.specs.Refusal.{refusal}
+use Rattle.refusals.specs.Answer.{refused}
+use Rattle.refusals.proofs.Readers.{readers-low}
+use Rattle.tables.specs.declared.TaskTable.{TaskTable}
+use Rattle.tables.proofs.Plannable.{plannable}
+use Rattle.records.specs.declared.Reading.{Reading}
+use Rattle.records.specs.Reading.{readingOf}
+use Rattle.records.specs.Expected.{Refuses}
+use Rattle.records.proofs.Answers.{accepted-table, refused-table}
+use Rattle.records.proofs.Expected.{rule-refused, refused-rule, spelt-read, read-spelt, refused-told}
+use Rattle.ways.specs.Reaches.{Loops}
+use Rattle.ways.specs.Closure.{loops}
+use Rattle.ways.proofs.Closure.{loops-yes, loops-no}
+use Rattle.plans.specs.Accepted.{Accepted as Accepted-table}
+use Rattle.plans.specs.Calls.{taskOf}
+use Rattle.plans.proofs.Tests.{not-both}
+use Rattle.plans.proofs.Table.{tidy}
+use Rattle.plans.proofs.Cases.{Tasking}
+use Rattle.plans.proofs.Cases.Tasking.{unread, round, long, goes}
+use Rattle.claims.specs.Rule.{Rule, Decides}
+use Rattle.claims.specs.Record.{readerRule, recordRules, OfReading}
+use Rattle.claims.proofs.Rule.{Single, Singles, single, gives, not-given}
+
+-- the outcome that a rule of the reader's gives
+outcome-of : {bytes : List ℕ} {number place : ℕ} → Refuses bytes number place → readingOf bytes .outcome ≡ Refused (refusal number place)
+outcome-of {bytes} f = ap (λ (x : Reading). x .outcome) (rule-refused bytes f)
+
+-- what is promised of the reader
+pub reading : OfReading
+reading = record {
+  refuses = λ bytes number place. (λ e. refused-rule bytes (refusal number place) e, outcome-of);
+  reads = λ bytes t. (read-spelt bytes t, spelt-read bytes);
+  own = λ bytes number place f. let told = refused-told bytes (refusal number place) (outcome-of f) in (told .own, told .place);
+  empty = refused-table;
+}
+
+-- the reader gives one refusal
+pub reader-single : (bytes : List ℕ) → Single (readerRule bytes)
+reader-single bytes r s (k, p, f, e) (l, q, g, d) = let same = sym (outcome-of f) ∙ outcome-of g in let z : refusal k p ≡ refusal l q = cc in e ∙ z ∙ sym d
+
+pub record-singles : (bytes : List ℕ) → Singles (recordRules bytes)
+record-singles bytes = (reader-single bytes, (single _ _, (single _ _, tt)))
+
+-- a refusal's number is not 0
+pub unread-some : (bytes : List ℕ) (r : Refusal) → readingOf bytes .outcome ≡ Refused r → r .number ≡ 0 → ⊥
+unread-some bytes r e z = let l = readers-low (r .number) (refused-told bytes r e .own) in omega arith
+
+-- a record that was read is refused by none of the reader's rules
+read-clear : {bytes : List ℕ} → readingOf bytes .outcome ≡ Accepted → (r : Refusal) → readerRule bytes r → ⊥
+read-clear e r (k, p, f, d) = not-both (outcome-of f) e
+
+-- no loop, by the test
+no-loop : (bytes : List ℕ) → readingOf bytes .outcome ≡ Accepted → loops (taskOf bytes .parents) (taskOf bytes .count) ≡ false → Loops (taskOf bytes .parents) (taskOf bytes .count) → ⊥
+no-loop bytes e l w = loops-no (taskOf bytes .parents) (taskOf bytes .count) (tidy (plannable (accepted-table bytes e))) l (w .0) (w .2)
+
+-- a record's rules, with those after them, decide what its task comes to
+pub decided : {A : Type 0} {refuse : Refusal → A} {go : TaskTable → A} (answer : A → Answer) (told : (r : Refusal) → answer (refuse r) ≡ refused r)
+    (bytes : List ℕ) (rest : List Rule) (value : ℕ → Type 0)
+    → (readingOf bytes .outcome ≡ Accepted → Accepted-table (taskOf bytes) → Decides rest value (answer (go (taskOf bytes))))
+    → {x : A} → Tasking refuse go bytes x → Decides (recordRules bytes ++ rest) value (answer x)
+decided answer told bytes rest value entry (unread r e) = inl (r, (r .number, r .place, refused-rule bytes r e, refl), told r)
+decided answer told bytes rest value entry (round e l) =
+    inr (read-clear e, inl (gives 10 (loops-yes (taskOf bytes .parents) (taskOf bytes .count) (tidy (plannable (accepted-table bytes e))) l) (told (refusal 10 0))))
+decided answer told bytes rest value entry (long e l h) = inr (read-clear e, inr (not-given (no-loop bytes e l), inl (gives 11 h (told (refusal 11 0)))))
+decided answer told bytes rest value entry (goes e ok) =
+    inr (read-clear e, inr (not-given (no-loop bytes e (ok .free)), inr (not-given (λ h. let f = ok .fits in omega arith), entry e ok)))

@@ -1,0 +1,45 @@
+-- Rules decide one answer, because each step asks whether one rule gives a refusal, a rule gives one at most, and a value is one number.
+use mathlib.Core.Path.{_≡_, refl, sym, ap, _∙_}
+use mathlib.Core.Logic.{inl, inr}
+use mathlib.Core.List.{List, [], _∷_}
+use Prim.Native.Nat.{ℕ}
+use Rattle.refusals.specs.declared.Refusal.{Refusal}
+use Rattle.refusals.specs.declared.Answer.{Answer}
+use Rattle.refusals.specs.Refusal.{refusal}
+use Rattle.refusals.specs.Answer.{accepted, refused}
+use Rattle.claims.specs.Rule.{Rule, rule, Decides, OnlyWhen}
+
+-- one number at most
+abbrev pub OneValue : (ℕ → Type 0) → Type 0
+OneValue value = (v w : ℕ) → value v → value w → v ≡ w
+
+-- each rule gives one refusal at most
+abbrev pub Single : Rule → Type 0
+Single given = (r s : Refusal) → given r → given s → r ≡ s
+
+abbrev pub Singles : List Rule → Type 0
+Singles [] = Unit {0}
+Singles (first ∷ later) = Single first × Singles later
+
+-- a line of the table does
+pub single : (number : ℕ) (given : Type 0) → Single (rule number given)
+single number given r s p q = p .1 ∙ sym (q .1)
+
+-- the rules decide one answer
+one-decision : (rules : List Rule) {value : ℕ → Type 0} → Singles rules → OneValue value → (a b : Answer) → Decides rules value a → Decides rules value b → a ≡ b
+one-decision [] s alone a b (v, p, e) (w, q, f) = e ∙ ap accepted (alone v w p q) ∙ sym f
+one-decision (first ∷ later) s alone a b (inl (r, p, e)) (inl (t, q, f)) = e ∙ ap refused (s .0 r t p q) ∙ sym f
+one-decision (first ∷ later) s alone a b (inl (r, p, e)) (inr (n, d)) = absurd (n r p)
+one-decision (first ∷ later) s alone a b (inr (n, d)) (inl (r, p, e)) = absurd (n r p)
+one-decision (first ∷ later) s alone a b (inr (n, d)) (inr (m, c)) = one-decision later (s .1) alone a b d c
+
+-- so an answer that they decide is the only one
+pub only-when : (rules : List Rule) (value : ℕ → Type 0) {answer : Answer} → Singles rules → OneValue value → Decides rules value answer → OnlyWhen rules value answer
+only-when rules value {answer} s alone d = λ a. (λ e. one-decision rules s alone a answer e d, λ e. rw e d)
+
+-- a line of the table that holds, and one that doesn't
+pub gives : (number : ℕ) {given : Type 0} {answer : Answer} → given → answer ≡ refused (refusal number 0) → (r : Refusal) × rule number given r × (answer ≡ refused r)
+gives number g e = (refusal number 0, (g, refl), e)
+
+pub not-given : {number : ℕ} {given : Type 0} → (given → ⊥) → (r : Refusal) → rule number given r → ⊥
+not-given n r p = n (p .0)

@@ -1,0 +1,21 @@
+-- All that is promised of what `plansheet` prints.
+use mathlib.Core.Path.{_≡_}
+use mathlib.Core.List.{List}
+use Prim.Native.Nat.{ℕ, _≤_}
+use lib.ListN.{length}
+use Rattle.refusals.specs.declared.Refusal.{Refusal}
+use Rattle.refusals.specs.Answer.{refused}
+use Rattle.plans.specs.Calls.{taskOf, planCall}
+use Rattle.sheets.specs.Lines.{refusedLine}
+use Rattle.sheets.specs.Sheet.{sheetMax}
+use Rattle.sheets.specs.Printed.{tableSheet, sheetOf}
+use Rattle.claims.specs.Rule.{IsAccepted}
+
+-- with words enough for a plan lent
+pub record OfPrinting : Type 0 where
+  -- "On a refusal it prints one line": that of the refusal which planning gives
+  pub refusal : (bytes words : List ℕ) (r : Refusal) → 387 ≤ length words → planCall bytes words .answer ≡ refused r → sheetOf bytes ≡ refusedLine r
+  -- else the lines of the plan
+  pub sheet : (bytes words : List ℕ) → IsAccepted (planCall bytes words .answer) → sheetOf bytes ≡ tableSheet (taskOf bytes)
+  -- every sheet fits the buffer
+  pub fits : (bytes : List ℕ) → length (sheetOf bytes) ≤ sheetMax

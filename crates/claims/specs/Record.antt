@@ -1,0 +1,43 @@
+-- Demand 2, of a record: its rules, shared by the calls that take one, and what the reader does with it.
+use mathlib.Core.Path.{_≡_}
+use mathlib.Core.Bool.{true}
+use mathlib.Core.Logic.{_↔_}
+use mathlib.Core.List.{List, [], _∷_}
+use Prim.Native.Nat.{ℕ, _≤_, _<_}
+use lib.ListN.{length}
+use Rattle.refusals.specs.declared.Refusal.{Refusal}
+use Rattle.refusals.specs.declared.Outcome.the-variants.{Refused}
+use Rattle.refusals.specs.Refusal.{refusal}
+use Rattle.refusals.specs.Readers.{isReaders}
+use Rattle.tables.specs.declared.TaskTable.{TaskTable}
+use Rattle.tables.specs.Table.{emptyTable}
+use Rattle.records.specs.Nodes.{tableRead}
+use Rattle.records.specs.Reading.{readingOf}
+use Rattle.records.specs.Expected.{Refuses, Spells}
+use Rattle.ways.specs.Reaches.{Loops}
+use Rattle.plans.specs.Diagram.{path}
+use Rattle.plans.specs.Calls.{taskOf}
+use Rattle.claims.specs.Rule.{Rule, rule}
+
+-- "1 to 9 as met": what is expected at a place that was reached has a fault, or bytes follow
+abbrev pub readerRule : List ℕ → Rule
+readerRule bytes r = (number : ℕ) × (place : ℕ) × Refuses bytes number place × (r ≡ refusal number place)
+
+-- 1 to 9; 10, "some node is reached from itself by one or more parent edges"; 11, "the path is longer than the period"
+abbrev pub recordRules : List ℕ → List Rule
+recordRules bytes =
+    readerRule bytes
+    ∷ rule 10 (Loops (taskOf bytes .parents) (taskOf bytes .count))
+    ∷ rule 11 (taskOf bytes .period < path (taskOf bytes))
+    ∷ []
+
+-- what is promised of the reader
+pub record OfReading : Type 0 where
+  -- it refuses a record by a number at a place exactly where a rule of the table gives that
+  pub refuses : (bytes : List ℕ) (number place : ℕ) → (readingOf bytes .outcome ≡ Refused (refusal number place)) ↔ Refuses bytes number place
+  -- it reads a table exactly from a record whose numbers are all fine and spell it
+  pub reads : (bytes : List ℕ) (t : TaskTable) → (readingOf bytes ≡ tableRead t) ↔ Spells bytes t
+  -- its refusals are its own numbers, at a byte of the record or at its end
+  pub own : (bytes : List ℕ) (number place : ℕ) → Refuses bytes number place → (isReaders number ≡ true) × (place ≤ length bytes)
+  -- "and with them, from any reader of a table, a table that is all zeros"
+  pub empty : (bytes : List ℕ) (r : Refusal) → readingOf bytes .outcome ≡ Refused r → readingOf bytes .table ≡ emptyTable

@@ -1,0 +1,15 @@
+-- Numbers as they are written: what the laws on reading again speak of.
+use Prim.Native.Nat.{ℕ, zero, suc, _+_, _/_, _%_, _<_}
+use mathlib.Core.List.{List, [], _∷_}
+use lib.Dec.{ltb}
+use Rattle.plain.specs.At.{at}
+use Rattle.plain.specs.Pick.{pick}
+
+-- every element is a byte
+abbrev pub Bytes : List ℕ → Type 0
+Bytes s = (k : ℕ) → at s k < 256
+
+-- "So 128 is 80 01, and 16,777,215 is FF FF FF 07.": v as it is written, in shortest form
+unfoldable pub shortest : (more v : ℕ) → List ℕ
+shortest zero v = v ∷ []
+shortest (suc more) v = pick (ltb v 128) (v ∷ []) ((128 + v % 128) ∷ shortest more (v / 128))

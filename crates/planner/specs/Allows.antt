@@ -1,0 +1,24 @@
+-- What each public call allows: "each public call's contract determines the answer and the later content of the plan and board, refusals too".
+use mathlib.Core.Path.{_≡_}
+use mathlib.Core.List.{List}
+use Prim.Native.Nat.{ℕ}
+use Rattle.refusals.specs.After.{After}
+use Rattle.boards.specs.declared.Row.{Row}
+use Rattle.plans.specs.Calls.{planCall}
+use Rattle.planner.specs.Calls.{Lent, admitCall, withdrawCall, askCall}
+
+-- planning: its answer, and the words after it
+abbrev pub PlanAllows : (bytes words : List ℕ) → After (List ℕ) → Type 0
+PlanAllows bytes words after = after ≡ planCall bytes words
+
+-- admitting: its answer, and the words and the rows after it
+abbrev pub AdmitAllows : (bytes words : List ℕ) (rows : List Row) → After Lent → Type 0
+AdmitAllows bytes words rows after = after ≡ admitCall bytes words rows
+
+-- withdrawing: its answer, and the rows after it
+abbrev pub WithdrawAllows : (rows : List Row) (id : ℕ) → After (List Row) → Type 0
+WithdrawAllows rows id after = after ≡ withdrawCall rows id
+
+-- asking: its answer, and the rows, which are those before it
+abbrev pub AskAllows : (rows : List Row) (cores : ℕ) → After (List Row) → Type 0
+AskAllows rows cores after = after ≡ askCall rows cores

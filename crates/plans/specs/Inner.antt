@@ -1,0 +1,3 @@
+pub mod Planned
+pub mod Drawn
+pub mod Table

@@ -1,0 +1,228 @@
+-- Refusals 1 to 9 by their rules. What the definition of reading still does from a place on depends only on what is expected there; so along
+-- the numbers that are fine it is the reading of what is left. Every number is fine or is not, each fine one takes a byte at least, and so
+-- every input comes to a refusal or to its table.
+use Prim.Native.Nat.{ℕ, zero, suc, _+_, _-_, _^_, _≤_, _<_}
+use mathlib.Core.Path.{_≡_, refl, sym, ap, subst, _∙_}
+use mathlib.Core.Logic.{inl, inr, ⊎-elim}
+use mathlib.Core.Bool.{Bool, true, false}
+use mathlib.Core.List.{List}
+use native.Mathlib.Nat.{le-refl}
+use native.Mathlib.Omega.{arith}
+use lib.ListN.{length, drop, length-drop}
+use lib.Dec.{ltb}
+use borrow.Author.Tests.{ltb-true, ltb-false}
+use Rattle.plain.specs.Pick.{pick}
+use Rattle.plain.proofs.Lists.{lt-or-ge}
+use Rattle.refusals.specs.declared.Refusal.{Refusal}
+use Rattle.refusals.specs.Refusal.{refusal}
+use Rattle.refusals.specs.declared.Outcome.the-variants as outcome
+use Rattle.refusals.specs.Numbers.{ended, badForm, badEdition, badId, badPeriod, badCount, badExecution}
+use Rattle.refusals.specs.Readers.{isIn, isReaders}
+use Rattle.tables.specs.declared.TaskTable.{TaskTable}
+use Rattle.tables.specs.Limits.{idMax, periodMax, countMax, executionMax}
+use Rattle.numbers.specs.Number.{recordMore}
+use Rattle.numbers.specs.Form.{Whole, Ends, Long, Padded}
+use Rattle.numbers.proofs.Forms as forms
+use Rattle.numbers.proofs.Cases.{clash}
+use Rattle.records.specs.declared.Step.{Step}
+use Rattle.records.specs.declared.Step.the-variants.{Read, Refused}
+use Rattle.records.specs.declared.Reading.{Reading}
+use Rattle.records.specs.Step.{andThen}
+use Rattle.records.specs.Ranged.{stepOf, whole, ranged}
+use Rattle.records.specs.Parents.{parents, parentSet}
+use Rattle.records.specs.Nodes.{tableRead, noTable, withNode, nothingFollows, nodes}
+use Rattle.records.specs.Reading.{headed, readingOf}
+use Rattle.records.specs.Expected.{Due, range, Next, nodeFrom, parentFrom, after, Expects, Refuses, Spells}
+use Rattle.records.specs.Expected.Due.{edition, id, period, count, execution, parentCount, parent}
+use Rattle.records.specs.Expected.Next.{number, nothing}
+use Rattle.records.specs.Expected.Expects.{begin, on}
+use Rattle.records.specs.Expected.Refuses.{ends, long, padded, outside, follow}
+use Rattle.records.proofs.Cases.{then-read, then-refused, ranged-refused, ranged-out, ranged-in, some-follow, none-follow, nodes-none, nodes-more}
+
+-- the same after every value, and a step in a step
+then-same : {A : Type 0} (out : Refusal → A) (step : Step) (more instead : ℕ → ℕ → A) → ((v next : ℕ) → more v next ≡ instead v next) →
+    andThen out step more ≡ andThen out step instead
+unfolding andThen
+then-same out (Read v next) more instead e = e v next
+then-same out (Refused r) more instead e = refl
+
+then-then : {A : Type 0} (out : Refusal → A) (step : Step) (then : ℕ → ℕ → Step) (more : ℕ → ℕ → A) →
+    andThen out (andThen Refused step then) more ≡ andThen out step (λ v next. andThen out (then v next) more)
+unfolding andThen
+then-then out (Read v next) then more = refl
+then-then out (Refused r) then more = refl
+
+-- what reading still does from a place on: from the node count, from the period, from the id, after a node's parents
+fromCount : ℕ → ℕ → List ℕ → ℕ → Reading
+fromCount d p s at = andThen noTable (ranged badCount 1 countMax s at) λ n next. nodes n 0 (headed d p n) s next
+
+fromPeriod : ℕ → List ℕ → ℕ → Reading
+fromPeriod d s at = andThen noTable (ranged badPeriod 1 periodMax s at) λ p next. fromCount d p s next
+
+fromId : List ℕ → ℕ → Reading
+fromId s at = andThen noTable (ranged badId 1 idMax s at) λ d next. fromPeriod d s next
+
+fromNext : List ℕ → TaskTable → (i e w next : ℕ) → Reading
+fromNext s t i e w next = nodes (t .count - (i + 1)) (i + 1) (withNode t i e w) s next
+
+onward : List ℕ → ℕ → Next → Reading
+onward s at (number edition) = andThen noTable (ranged badEdition 1 1 s at) λ _ next. fromId s next
+onward s at (number id) = fromId s at
+onward s at (number (period d)) = fromPeriod d s at
+onward s at (number (count d p)) = fromCount d p s at
+onward s at (number (execution t i)) =
+    andThen noTable (ranged badExecution 1 executionMax s at) λ e next. andThen noTable (parentSet (t .count) s next) (fromNext s t i e)
+onward s at (number (parentCount t i e)) = andThen noTable (parentSet (t .count) s at) (fromNext s t i e)
+onward s at (number (parent t i e left low set)) = andThen noTable (parents (suc left) (t .count) low set s at) (fromNext s t i e)
+onward s at (nothing t) = nothingFollows t s at
+
+-- from a node on, and from a parent on
+node-onward : (s : List ℕ) (at : ℕ) (t : TaskTable) (i : ℕ) → nodes (t .count - i) i t s at ≡ onward s at (nodeFrom t i)
+unfolding onward fromNext
+node-onward s at t i = by (ltb i (t .count)) refl
+  where
+    by : (b : Bool) → ltb i (t .count) ≡ b → nodes (t .count - i) i t s at ≡ onward s at (pick b (number (execution t i)) (nothing t))
+    by true e = nodes-more i (t .count) t s at (ltb-true _ _ e) refl
+    by false e = nodes-none i (t .count) t s at (ltb-false _ _ e)
+
+parent-onward : (s : List ℕ) (at : ℕ) (t : TaskTable) (i e left low set : ℕ) →
+    andThen noTable (parents left (t .count) low set s at) (fromNext s t i e) ≡ onward s at (parentFrom t i e left low set)
+unfolding andThen parents onward fromNext
+parent-onward s at t i e zero low set = node-onward s at (withNode t i e set) (i + 1)
+parent-onward s at t i e (suc left) low set = refl
+
+-- it begins with the number that is expected there, tried in its range
+onward-step : (s : List ℕ) (at : ℕ) (d : Due) →
+    onward s at (number d) ≡ andThen noTable (ranged (range d .broken) (range d .low) (range d .high) s at) (λ v next. onward s next (after d v))
+unfolding onward fromId fromPeriod fromCount parentSet parents
+onward-step s at edition = refl
+onward-step s at id = refl
+onward-step s at (period d) = refl
+onward-step s at (count d p) = then-same _ _ _ _ λ n next.
+    let e : n ≡ n - 0 = omega arith in ap (λ (k : ℕ). nodes k 0 (headed d p n) s next) e ∙ node-onward s next (headed d p n) 0
+onward-step s at (execution t i) = refl
+onward-step s at (parentCount t i e) = then-then _ _ _ _ ∙ then-same _ _ _ _ λ k next. parent-onward s next t i e k 0 0
+onward-step s at (parent t i e left low set) = then-then _ _ _ _ ∙ then-same _ _ _ _ λ p next. parent-onward s next t i e left (p + 1) (set + 2 ^ p)
+
+-- the number at a place, by its form
+module _ (s : List ℕ) (at : ℕ) where
+  whole-read : {v n : ℕ} → Whole recordMore (drop at s) v n → whole s at ≡ Read v (at + n)
+  unfolding whole
+  whole-read (f, h) = ap (stepOf (length s) at) (forms.whole-read recordMore f h)
+
+  ends-read : Ends recordMore (drop at s) → whole s at ≡ Refused (refusal ended (length s))
+  unfolding whole
+  ends-read (k, h, l) = ap (stepOf (length s) at) (forms.ends-read recordMore l h)
+
+  long-read : Long recordMore (drop at s) → whole s at ≡ Refused (refusal badForm at)
+  unfolding whole
+  long-read (rest, l) = ap (stepOf (length s) at) (forms.long-read recordMore l)
+
+  padded-read : Padded recordMore (drop at s) → whole s at ≡ Refused (refusal badForm at)
+  unfolding whole
+  padded-read (k, rest, z, h, l) = ap (stepOf (length s) at) (forms.padded-read recordMore l z h .2)
+
+module _ (s : List ℕ) where
+  -- along fine numbers, reading is the reading of what is left
+  reached : {at : ℕ} {next : Next} → Expects s at next → readingOf s ≡ onward s at next
+  unfolding readingOf onward fromId fromPeriod fromCount
+  reached begin = refl
+  reached (on {place = at} {v = v} {n = n} {due = d} e w l h) =
+      reached e ∙ onward-step s at d ∙ then-read _ _ _ _ _ (ranged-in _ _ _ s at v (at + n) (whole-read s at w) l h)
+
+  -- so what is refused by a rule is refused by that number at that place, and what spells a table is read as it
+  stops : {at : ℕ} {d : Due} {r : Refusal} → Expects s at (number d) → ranged (range d .broken) (range d .low) (range d .high) s at ≡ Refused r → readingOf s ≡ noTable r
+  stops {at} {d} e q = reached e ∙ onward-step s at d ∙ then-refused _ _ _ _ q
+
+  pub rule-refused : {k place : ℕ} → Refuses s k place → readingOf s ≡ noTable (refusal k place)
+  unfolding onward
+  rule-refused (ends {place = at} e f) = stops e (ranged-refused _ _ _ s at _ (ends-read s at f))
+  rule-refused (long {place = at} e f) = stops e (ranged-refused _ _ _ s at _ (long-read s at f))
+  rule-refused (padded {place = at} e f) = stops e (ranged-refused _ _ _ s at _ (padded-read s at f))
+  rule-refused (outside {place = at} e w o) = stops e (ranged-out _ _ _ s at _ _ (whole-read s at w) o)
+  rule-refused (follow {place = at} {t = t} e h) = reached e ∙ some-follow t s at h
+
+  pub spelt-read : {t : TaskTable} → Spells s t → readingOf s ≡ tableRead t
+  unfolding onward
+  spelt-read {t} e = reached e ∙ none-follow t s (length s) (omega arith)
+
+  -- a place that is reached is inside the input
+  pub reached-inside : {at : ℕ} {next : Next} → Expects s at next → at ≤ length s
+  reached-inside begin = omega arith
+  reached-inside (on {place = at} e w l h) = omega (arith, reached-inside e, forms.form-within (w .0), length-drop at s)
+
+  -- what an input comes to
+  data Comes : Type 0 where
+    refuses : {k place : ℕ} → Refuses s k place → Comes
+    spells : {t : TaskTable} → Spells s t → Comes
+
+  -- what is expected at a place is there, and then `again` goes on after it; or this is the end
+  comes-at : (at : ℕ) (next : Next) → Expects s at next → ((later : ℕ) (next : Next) → at < later → Expects s later next → Comes) → Comes
+  comes-at at (nothing t) e again = ⊎-elim
+      (λ (h : at < length s). refuses (follow e h))
+      (λ (h : length s ≤ at). let q : at ≡ length s = omega (arith, reached-inside e) in spells (rw q at e))
+      (lt-or-ge at (length s))
+  comes-at at (number d) e again = by (forms.found recordMore (drop at s))
+    where
+      by : forms.Found recordMore (drop at s) → Comes
+      by (forms.Found.ends f) = refuses (ends e f)
+      by (forms.Found.long f) = refuses (long e f)
+      by (forms.Found.padded f) = refuses (padded e f)
+      by (forms.Found.whole v n w) = ⊎-elim
+          (λ (l : v < range d .low). refuses (outside e w (inl l)))
+          (λ (l : range d .low ≤ v). ⊎-elim
+          (λ (h : range d .high < v). refuses (outside e w (inr h)))
+          (λ (h : v ≤ range d .high). again (at + n) (after d v) (omega (arith, forms.form-some (w .0))) (on e w l h))
+          (lt-or-ge (range d .high) v))
+          (lt-or-ge v (range d .low))
+
+  -- from a place on, with at most so many bytes left
+  comes-from : (left at : ℕ) (next : Next) → length s ≤ at + left → Expects s at next → Comes
+  comes-from zero at next b e = comes-at at next e λ later next l f. absurd (omega (arith, reached-inside f))
+  comes-from (suc left) at next b e = comes-at at next e λ later next l f. comes-from left later next (omega arith) f
+
+  comes : Comes
+  comes = comes-from (length s) 0 (number edition) (omega arith) begin
+
+  -- and so a refusal is by its rule, and a table that is read is the one that is spelt
+  pub refused-rule : (r : Refusal) → readingOf s .outcome ≡ outcome.Refused r → Refuses s (r .number) (r .place)
+  refused-rule r q = by comes
+    where
+      by : Comes → Refuses s (r .number) (r .place)
+      by (refuses {k} {place} f) =
+          let e : outcome.Refused (refusal k place) ≡ outcome.Refused r = ap (λ (x : Reading). x .outcome) (sym (rule-refused f)) ∙ q in
+          let d : refusal k place ≡ r = cc in subst (λ (x : Refusal). Refuses s (x .number) (x .place)) d f
+      by (spells f) = clash (let e = ap (λ (x : Reading). x .outcome) (sym (spelt-read f)) ∙ q in cc)
+
+  pub read-spelt : (t : TaskTable) → readingOf s ≡ tableRead t → Spells s t
+  read-spelt t q = by comes
+    where
+      by : Comes → Spells s t
+      by (refuses f) = clash (let e = ap (λ (x : Reading). x .outcome) (sym (rule-refused f) ∙ q) in cc)
+      by (spells {t = u} f) = let e : u ≡ t = ap (λ (x : Reading). x .table) (sym (spelt-read f) ∙ q) in rw e at f
+
+-- a refusal of the reader: one of its own numbers, at a byte of the input or at its end
+pub record Told (size : ℕ) (r : Refusal) : Type 0 where
+  pub own : isReaders (r .number) ≡ true
+  pub place : r .place ≤ size
+
+own-range : (d : Due) → isReaders (range d .broken) ≡ true
+unfolding isIn
+own-range edition = refl
+own-range id = refl
+own-range (period d) = refl
+own-range (count d p) = refl
+own-range (execution t i) = refl
+own-range (parentCount t i e) = refl
+own-range (parent t i e left low set) = refl
+
+rule-told : {s : List ℕ} {k place : ℕ} → Refuses s k place → Told (length s) (refusal k place)
+unfolding isIn
+rule-told (ends e f) = record { own = refl; place = le-refl _ }
+rule-told (long e f) = record { own = refl; place = reached-inside _ e }
+rule-told (padded e f) = record { own = refl; place = reached-inside _ e }
+rule-told (outside {due = d} e w o) = record { own = own-range d; place = reached-inside _ e }
+rule-told (follow e h) = record { own = refl; place = reached-inside _ e }
+
+pub refused-told : (s : List ℕ) (r : Refusal) → readingOf s .outcome ≡ outcome.Refused r → Told (length s) r
+refused-told s r q = rule-told (refused-rule s r q)

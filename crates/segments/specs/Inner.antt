@@ -1,0 +1,5 @@
+pub mod Along
+pub mod Diagram
+pub mod Room
+pub mod Words
+pub mod By

@@ -1,0 +1,6 @@
+pub mod Called
+pub mod Elements
+pub mod Locals
+pub mod Slices
+pub mod Told
+pub mod Walk

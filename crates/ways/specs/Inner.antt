@@ -1,0 +1,4 @@
+pub mod Order
+pub mod Waiting
+pub mod Weights
+pub mod Tidy
