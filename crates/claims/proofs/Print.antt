@@ -1,10 +1,10 @@
 -- What is printed is what planning says: both go by the cases of the record's task.
 use mathlib.Core.Path.{_≡_, refl, ap, _∙_}
-use mathlib.Core.List.{List, [], _∷_}
-use Prim.Native.Nat.{ℕ, _≤_}
+use mathlib.Core.List.{List, [], _∷_, _++_}
+use Prim.Native.Nat.{ℕ, _+_, _≤_}
 use native.Mathlib.Omega.{arith}
-use lib.ListN.{length, replicate}
-use borrow.Author.Tests.{eqb-false}
+use lib.ListN.{length, drop, replicate}
+use borrow.Author.Tests.{eqb-false, lt-ltb, le-ltb}
 use Rattle.refusals.specs.Numbers.{loop, longPath, fewWords}
 use Rattle.refusals.specs.declared.Refusal.{Refusal}
 use Rattle.refusals.specs.declared.Answer.{Answer}
@@ -20,9 +20,10 @@ use Rattle.plans.proofs.Cases.{Tasking, tasking}
 use Rattle.plans.proofs.Cases.Tasking.{unread, round, long, goes}
 use Rattle.texts.specs.Text.{bytes as text}
 use Rattle.texts.specs.Lines.{line}
+use Rattle.texts.specs.Wrote.{wrote}
 use Rattle.sheets.specs.Lines.{refusedLine}
 use Rattle.sheets.specs.Sheet.{sheetMax}
-use Rattle.sheets.specs.Printed.{headOf, tableSheet, sheetOf}
+use Rattle.sheets.specs.Printed.{headOf, tableSheet, sheetOf, printed}
 use Rattle.sheets.proofs.Sizes.{sheet-fits, refusal-fits}
 use Rattle.claims.specs.Rule.{IsAccepted}
 use Rattle.claims.specs.Print.{OfPrinting}
@@ -62,10 +63,17 @@ fits bytes (goes e ok) =
     let most = ok .range .count-high in
     sheet-fits (headOf t) _ (rw (at-segments t (replicate wordsMax 0)) (omega arith)) (rw (at-nodes t (replicate wordsMax 0)) most)
 
+-- at the front nothing stands before the text
+front : (text out : List ℕ) → sheetMax ≤ length out → printed text out ≡ record { count = length text; out = text ++ drop (length text) out }
+unfolding wrote
+front text out h = let none : 0 + length text ≡ length text = omega arith in rw (le-ltb (length out) sheetMax h, none)
+
 -- the promises
 pub of-printing : OfPrinting
 of-printing = record {
   refusal = λ bytes words r w a. refusal-line bytes words r w (planning bytes words) a;
   sheet = λ bytes words z. plan-sheet bytes words (planning bytes words) z;
   fits = λ bytes. fits bytes (tasking refusedLine tableSheet bytes);
+  written = λ bytes out h. front (sheetOf bytes) out h;
+  untouched = λ bytes out h. rw (lt-ltb (length out) sheetMax h);
 }

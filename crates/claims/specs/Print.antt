@@ -1,14 +1,14 @@
 -- All that is promised of what `plansheet` prints.
 use mathlib.Core.Path.{_≡_}
-use mathlib.Core.List.{List}
-use Prim.Native.Nat.{ℕ, _≤_}
-use lib.ListN.{length}
+use mathlib.Core.List.{List, _++_}
+use Prim.Native.Nat.{ℕ, _≤_, _<_}
+use lib.ListN.{length, drop}
 use Rattle.refusals.specs.declared.Refusal.{Refusal}
 use Rattle.refusals.specs.Answer.{refused}
 use Rattle.plans.specs.Calls.{taskOf, planCall}
 use Rattle.sheets.specs.Lines.{refusedLine}
 use Rattle.sheets.specs.Sheet.{sheetMax}
-use Rattle.sheets.specs.Printed.{tableSheet, sheetOf}
+use Rattle.sheets.specs.Printed.{tableSheet, sheetOf, printed}
 use Rattle.claims.specs.Rule.{IsAccepted}
 
 -- with words enough for a plan lent
@@ -19,3 +19,6 @@ pub record OfPrinting : Type 0 where
   pub sheet : (bytes words : List ℕ) → IsAccepted (planCall bytes words .answer) → sheetOf bytes ≡ tableSheet (taskOf bytes)
   -- every sheet fits the buffer
   pub fits : (bytes : List ℕ) → length (sheetOf bytes) ≤ sheetMax
+  -- the contract: the text stands at the front of a buffer that is large enough, "bytes past them keep their content"; a smaller one is untouched
+  pub written : (bytes out : List ℕ) → sheetMax ≤ length out → printed (sheetOf bytes) out ≡ record { count = length (sheetOf bytes); out = sheetOf bytes ++ drop (length (sheetOf bytes)) out }
+  pub untouched : (bytes out : List ℕ) → length out < sheetMax → printed (sheetOf bytes) out ≡ record { count = 0; out = out }
