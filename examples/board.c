@@ -16,11 +16,14 @@ int main(void)
 {
     /* Document 01's listing: task 3, period 6, three nodes, node 2 waits for node 1. */
     static const uint8_t record[] = {0x01, 0x03, 0x06, 0x03, 0x03, 0x00, 0x01, 0x00, 0x01, 0x01, 0x01};
+    /* The same with its period padded: 86 00 for 06. */
+    static const uint8_t padded[] = {0x01, 0x03, 0x86, 0x00, 0x03, 0x03, 0x00, 0x01, 0x00, 0x01, 0x01, 0x01};
     static uint64_t words[PLANNER_WORDS];
     static struct planner_row board[PLANNER_ROWS];
 
     show("plan", planner_plan(record, sizeof record, words, PLANNER_WORDS));
     printf("over %" PRIu64 ", %" PRIu64 " segments, %" PRIu64 " nodes\n", words[0], words[1], words[2]);
+    show("plan padded", planner_plan(padded, sizeof padded, words, PLANNER_WORDS));
     show("admit", planner_admit(record, sizeof record, words, PLANNER_WORDS, board, PLANNER_ROWS));
     show("admit again", planner_admit(record, sizeof record, words, PLANNER_WORDS, board, PLANNER_ROWS));
     show("ask 1 core", planner_ask(board, PLANNER_ROWS, 1));

@@ -19,11 +19,12 @@
 #define PLANNER_ROWS 16
 
 /* What a call answers. refusal 0: accepted, and value holds what the call returns. Otherwise refusal is the number of
- * the rule that was broken, place where in the record it was met (for 1 the record's length, from 10 on 0), value 0.
- * Refusals: 1 the record ends too early; 2 a number is too long or padded; 3 edition, 4 id, 5 period, 6 node count,
- * 7 execution out of range; 8 a parent count or parent out of range or order; 9 bytes follow the record; 10 a node waits
- * for itself, over others or not; 11 the path is longer than the period; 12 the id stands already; 13 no row is free;
- * 14 no task with this id stands; 15 no such number of cores; 16 too few words; 17 the board isn't sound. */
+ * the rule that was broken, place where in the record it was met (for 1 the record's length, from 10 to 17 0), value 0.
+ * Refusals: 1 the record ends too early; 2 a number's fourth byte has its top bit set; 3 edition, 4 id, 5 period, 6 node
+ * count, 7 execution out of range; 8 a parent count or parent out of range or order; 9 bytes follow the record; 10 a node
+ * waits for itself, over others or not; 11 the path is longer than the period; 12 the id stands already; 13 no row is
+ * free; 14 no task with this id stands; 15 no such number of cores; 16 too few words; 17 the board isn't sound; 18 a
+ * number isn't in its shortest form. */
 struct planner_answer {
     uint64_t refusal;
     uint64_t place;
@@ -43,12 +44,13 @@ struct planner_row {
  *   words[0] Q, words[1] the segment count s, words[2] the node count n,
  *   then s times (threads, length, deadline numerator), then n times (offset numerator, deadline numerator, density).
  * Offsets and deadlines are in time units times Q; densities are in millionths, rounded up.
- * value: the number of words written. Refusals, in this order: 16; 1 to 9 as met from the left; 10; 11. */
+ * value: the number of words written. Refusals, in this order: 16; 1 to 9 and 18 as met from the left; 10; 11. */
 struct planner_answer planner_plan(const uint8_t *record, uint64_t record_length,
                                    uint64_t *words, uint64_t words_length);
 
 /* Plans the task as planner_plan does and enters it in the lowest free row of the board.
- * value: the row filled, 0 .. 15. Refusals: 16; 17; 1 to 9; 10; 11; 12 (the id stands already); 13 (no row is free). */
+ * value: the row filled, 0 .. 15. Refusals: 16; 17; 1 to 9 and 18 as met from the left; 10; 11; 12 (the id stands
+ * already); 13 (no row is free). */
 struct planner_answer planner_admit(const uint8_t *record, uint64_t record_length,
                                     uint64_t *words, uint64_t words_length,
                                     struct planner_row *board, uint64_t board_length);

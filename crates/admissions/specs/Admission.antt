@@ -1,4 +1,4 @@
--- Admitting a task, on a board by value: "Admitting checks 16, 17, 1 to 9, 10, 11, 12, 13."
+-- Admitting a task, on a board by value: "Admitting checks 16, 17," the reader's refusals, "10, 11, 12, 13."
 use mathlib.Core.List.{List}
 use Prim.Native.Nat.{ℕ}
 use lib.Dec.{eqb, ltb}
@@ -37,7 +37,7 @@ entered rows words t =
     let c : Change = placed rows (rowOf t) in
     record { change = c; words = pick (eqb (c .answer .refusal) 0) (written t words) words }
 
--- 16, 17, then 1 to 9, 10, 11 by `onTask`, then 12, 13 by `entered`
+-- 16, 17, then the reader's, 10, 11 by `onTask`, then 12, 13 by `entered`
 unfoldable pub admission : List ℕ → List ℕ → List Row → Admission
 admission bytes words rows =
     pick (ltb (length words) wordsMax) (notAdmitted rows words (refusal fewWords 0))

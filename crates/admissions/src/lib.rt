@@ -66,7 +66,7 @@ fn admit_table(words: &mut [u64], table: TaskTable, board: Board) -> Change
     }
 }
 
-// Admits the task of a record: 16, 17, 1 to 9, and then its table.
+// Admits the task of a record: 16, 17, the reader's refusals, and then its table.
 pub fn admission(bytes: &[u8], words: &mut [u64], board: Board) -> Change
     ensures { λ r. ⌜ (r ≡ admission (now (bytes .entry)) (now (words .entry)) (board .rows) .change)
         × (r .at < rowsMax)

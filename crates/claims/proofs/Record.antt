@@ -3,7 +3,7 @@ use mathlib.Core.Path.{_≡_, refl, sym, ap, _∙_}
 use mathlib.Core.Logic.{inl, inr}
 use mathlib.Core.Bool.{false}
 use mathlib.Core.List.{List, _++_}
-use Prim.Native.Nat.{ℕ}
+use Prim.Native.Nat.{ℕ, _≤_}
 use native.Mathlib.Omega.{arith}
 use Rattle.refusals.specs.declared.Refusal.{Refusal}
 use Rattle.refusals.specs.declared.Answer.{Answer}
@@ -15,7 +15,11 @@ use Rattle.tables.specs.declared.TaskTable.{TaskTable}
 use Rattle.tables.proofs.Plannable.{plannable}
 use Rattle.records.specs.declared.Reading.{Reading}
 use Rattle.records.specs.Reading.{readingOf}
-use Rattle.records.specs.Expected.{Refuses}
+use Rattle.numbers.specs.Number.{recordMore}
+use Rattle.numbers.specs.Form.{Long, Padded}
+use Rattle.records.specs.Expected.{Due, range, Refuses}
+use Rattle.records.specs.Expected.Due.{edition, id, period, count, execution, parentCount, parent}
+use Rattle.records.specs.Expected.Refuses.{ends, long as too-long, padded, outside, follow}
 use Rattle.records.proofs.Answers.{accepted-table, refused-table}
 use Rattle.records.proofs.Expected.{rule-refused, refused-rule, spelt-read, read-spelt, refused-told}
 use Rattle.ways.specs.Reaches.{Loops}
@@ -28,17 +32,38 @@ use Rattle.plans.proofs.Table.{tidy}
 use Rattle.plans.proofs.Cases.{Tasking}
 use Rattle.plans.proofs.Cases.Tasking.{unread, round, long, goes}
 use Rattle.claims.specs.Rule.{Rule, Decides}
-use Rattle.claims.specs.Record.{readerRule, recordRules, OfReading}
+use Rattle.claims.specs.Record.{readerRule, recordRules, Faulty, OfReading}
 use Rattle.claims.proofs.Rule.{Single, Singles, single, gives, not-given}
 
 -- the outcome that a rule of the reader's gives
 outcome-of : {bytes : List ℕ} {number place : ℕ} → Refuses bytes number place → readingOf bytes .outcome ≡ Refused (refusal number place)
 outcome-of {bytes} f = ap (λ (x : Reading). x .outcome) (rule-refused bytes f)
 
+-- a range is refused by 3 to 8
+range-number : (d : Due) → (3 ≤ range d .broken) × (range d .broken ≤ 8)
+range-number edition = (omega arith, omega arith)
+range-number id = (omega arith, omega arith)
+range-number (period d) = (omega arith, omega arith)
+range-number (count d p) = (omega arith, omega arith)
+range-number (execution t i) = (omega arith, omega arith)
+range-number (parentCount t i e) = (omega arith, omega arith)
+range-number (parent t i e left low set) = (omega arith, omega arith)
+
+-- so 2 and 18 are each given by one rule alone
+fault-of : {bytes : List ℕ} {k place : ℕ} → Refuses bytes k place →
+    (k ≡ 2 → Faulty (Long recordMore) bytes place) × (k ≡ 18 → Faulty (Padded recordMore) bytes place)
+fault-of (ends e f) = (λ q. absurd (omega arith), λ q. absurd (omega arith))
+fault-of (too-long e f) = (λ q. (_, e, f), λ q. absurd (omega arith))
+fault-of (padded e f) = (λ q. absurd (omega arith), λ q. (_, e, f))
+fault-of (outside {due = d} e w o) = (λ q. absurd (omega (arith, range-number d)), λ q. absurd (omega (arith, range-number d)))
+fault-of (follow e h) = (λ q. absurd (omega arith), λ q. absurd (omega arith))
+
 -- what is promised of the reader
 pub reading : OfReading
 reading = record {
   refuses = λ bytes number place. (λ e. refused-rule bytes (refusal number place) e, outcome-of);
+  long = λ bytes place. (λ e. fault-of (refused-rule bytes (refusal 2 place) e) .0 refl, λ f. outcome-of (too-long (f .1) (f .2)));
+  padded = λ bytes place. (λ e. fault-of (refused-rule bytes (refusal 18 place) e) .1 refl, λ f. outcome-of (padded (f .1) (f .2)));
   reads = λ bytes t. (read-spelt bytes t, spelt-read bytes);
   own = λ bytes number place f. let told = refused-told bytes (refusal number place) (outcome-of f) in (told .own, told .place);
   empty = refused-table;

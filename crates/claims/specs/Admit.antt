@@ -22,7 +22,7 @@ boardRules bytes rows =
     ∷ rule 13 (SomeRow (IsFree rows) → ⊥)
     ∷ []
 
--- "Admitting checks 16, 17, 1 to 9, 10, 11, 12, 13"; 17 is "the lent board isn't sound"
+-- "Admitting checks 16, 17," the reader's refusals, "10, 11, 12, 13"; 17 is "the lent board isn't sound"
 abbrev pub admitRules : (bytes words : List ℕ) (rows : List Row) → List Rule
 admitRules bytes words rows =
     rule 16 (length words < 387)

@@ -18,7 +18,7 @@ use Rattle.claims.specs.Rule.{Rule, rule, IsAccepted}
 use Rattle.claims.specs.Promise.{Promise}
 use Rattle.claims.specs.Record.{recordRules}
 
--- "Planning checks 16, then 1 to 9 as met, then 10, 11"; 16 is "the lent plan has fewer than 387 words"
+-- "Planning checks 16, then" the reader's refusals "as met, then 10, 11"; 16 is "the lent plan has fewer than 387 words"
 abbrev pub planRules : (bytes words : List ℕ) → List Rule
 planRules bytes words = rule 16 (length words < 387) ∷ recordRules bytes
 

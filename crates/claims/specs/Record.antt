@@ -4,7 +4,7 @@ use mathlib.Core.Bool.{true}
 use mathlib.Core.Logic.{_↔_}
 use mathlib.Core.List.{List, [], _∷_}
 use Prim.Native.Nat.{ℕ, _≤_, _<_}
-use lib.ListN.{length}
+use lib.ListN.{length, drop}
 use Rattle.refusals.specs.declared.Refusal.{Refusal}
 use Rattle.refusals.specs.declared.Outcome.the-variants.{Refused}
 use Rattle.refusals.specs.Refusal.{refusal}
@@ -13,17 +13,20 @@ use Rattle.tables.specs.declared.TaskTable.{TaskTable}
 use Rattle.tables.specs.Table.{emptyTable}
 use Rattle.records.specs.Nodes.{tableRead}
 use Rattle.records.specs.Reading.{readingOf}
-use Rattle.records.specs.Expected.{Refuses, Spells}
+use Rattle.numbers.specs.Number.{recordMore}
+use Rattle.numbers.specs.Form.{Long, Padded}
+use Rattle.records.specs.Expected.{Due, Expects, Refuses, Spells}
+use Rattle.records.specs.Expected.Next.{number}
 use Rattle.ways.specs.Reaches.{Loops}
 use Rattle.plans.specs.Diagram.{path}
 use Rattle.plans.specs.Calls.{taskOf}
 use Rattle.claims.specs.Rule.{Rule, rule}
 
--- "1 to 9 as met": what is expected at a place that was reached has a fault, or bytes follow
+-- the reader's refusals "as met": what is expected at a place that was reached has a fault, or bytes follow
 abbrev pub readerRule : List ℕ → Rule
 readerRule bytes r = (number : ℕ) × (place : ℕ) × Refuses bytes number place × (r ≡ refusal number place)
 
--- 1 to 9; 10, "some node is reached from itself by one or more parent edges"; 11, "the path is longer than the period"
+-- the reader's; 10, "some node is reached from itself by one or more parent edges"; 11, "the path is longer than the period"
 abbrev pub recordRules : List ℕ → List Rule
 recordRules bytes =
     readerRule bytes
@@ -31,10 +34,17 @@ recordRules bytes =
     ∷ rule 11 (taskOf bytes .period < path (taskOf bytes))
     ∷ []
 
+-- a number is expected at a place, and its bytes there have this fault
+abbrev pub Faulty : (fault : List ℕ → Type 0) → (bytes : List ℕ) (place : ℕ) → Type 0
+Faulty fault bytes place = (due : Due) × Expects bytes place (number due) × fault (drop place bytes)
+
 -- what is promised of the reader
 pub record OfReading : Type 0 where
   -- it refuses a record by a number at a place exactly where a rule of the table gives that
   pub refuses : (bytes : List ℕ) (number place : ℕ) → (readingOf bytes .outcome ≡ Refused (refusal number place)) ↔ Refuses bytes number place
+  -- 2 exactly where "a fourth byte has its top bit set", and 18 exactly where "the form isn't the shortest", at that number
+  pub long : (bytes : List ℕ) (place : ℕ) → (readingOf bytes .outcome ≡ Refused (refusal 2 place)) ↔ Faulty (Long recordMore) bytes place
+  pub padded : (bytes : List ℕ) (place : ℕ) → (readingOf bytes .outcome ≡ Refused (refusal 18 place)) ↔ Faulty (Padded recordMore) bytes place
   -- it reads a table exactly from a record whose numbers are all fine and spell it
   pub reads : (bytes : List ℕ) (t : TaskTable) → (readingOf bytes ≡ tableRead t) ↔ Spells bytes t
   -- its refusals are its own numbers, at a byte of the record or at its end

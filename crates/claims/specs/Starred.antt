@@ -101,7 +101,7 @@ ownParent = 0x01 ∷ 0x05 ∷ 0x09 ∷ 0x01 ∷ 0x01 ∷ 0x01 ∷ 0x00 ∷ []
 abbrev pub eachOther : List ℕ
 eachOther = 0x01 ∷ 0x06 ∷ 0x09 ∷ 0x02 ∷ 0x01 ∷ 0x01 ∷ 0x01 ∷ 0x01 ∷ 0x01 ∷ 0x00 ∷ []
 
--- the starred tables, in document 01's order
+-- the starred tables, in document 01's order; 80 00 with the number that request a gives it
 unfoldable pub starred : List Entry
 starred =
     plans oneNode (5 ∷ 1 ∷ 1 ∷ 1 ∷ 5 ∷ 25 ∷ 0 ∷ 25 ∷ 1000000 ∷ [])
@@ -124,7 +124,7 @@ starred =
     ∷ refuses ownParent 10 0
     ∷ refuses eachOther 10 0
     ∷ refuses [] 1 0
-    ∷ refuses (0x80 ∷ 0x00 ∷ []) 2 0
+    ∷ refuses (0x80 ∷ 0x00 ∷ []) 18 0
     ∷ refuses (0x01 ∷ 0x07 ∷ 0x80 ∷ 0x80 ∷ 0x80 ∷ 0x08 ∷ []) 5 2
     ∷ answers [] 1 (accepted 1)
     ∷ answers [] 64 (accepted 1)

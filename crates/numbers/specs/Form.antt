@@ -25,6 +25,6 @@ Ends more s = (k : ℕ) × (k ≤ more) × Led k s []
 abbrev pub Long : (more : ℕ) → List ℕ → Type 0
 Long more s = (rest : List ℕ) × Led (suc more) s rest
 
--- "or the form isn't the shortest": a last byte of 0 that is not the sole byte
+-- "the form isn't the shortest": a last byte of 0 that is not the sole byte
 abbrev pub Padded : (more : ℕ) → List ℕ → Type 0
 Padded more s = (k : ℕ) × (rest : List ℕ) × (0 < k) × (k ≤ more) × Led k s (0 ∷ rest)

@@ -1,4 +1,4 @@
--- Planning as one definition: "Planning checks 16, then 1 to 9 as met, then 10, 11."
+-- Planning as one definition: "Planning checks 16, then" the reader's refusals "as met, then 10, 11."
 use mathlib.Core.List.{List}
 use Prim.Native.Nat.{ℕ}
 use lib.Dec.{ltb}
@@ -23,7 +23,7 @@ onTable refuse go t = pick (loops (t .parents) (t .count)) (refuse (refusal loop
 abbrev pub taskOf : List ℕ → TaskTable
 taskOf bytes = readingOf bytes .table
 
--- "1 to 9 as met, then 10, 11": the first refusal goes out by `refuse`, else the record's task goes on
+-- the reader's refusals "as met, then 10, 11": the first refusal goes out by `refuse`, else the record's task goes on
 unfoldable pub onTask : {A : Type 0} → (Refusal → A) → (TaskTable → A) → List ℕ → A
 onTask refuse go bytes = onOutcome refuse (onTable refuse go (taskOf bytes)) (readingOf bytes .outcome)
 

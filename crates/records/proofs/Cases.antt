@@ -10,7 +10,7 @@ use borrow.Author.Tests.{le-leb, lt-leb, le-ltb, lt-ltb}
 use types.Run.{OneOf}
 use denote.Enum.Declared.{tagOf}
 use Rattle.refusals.specs.declared.Refusal.{Refusal}
-use Rattle.refusals.specs.Numbers.{badForm, badExecution, badParent, bytesFollow}
+use Rattle.refusals.specs.Numbers.{badExecution, badParent, bytesFollow}
 use Rattle.tables.specs.declared.TaskTable.{TaskTable}
 use Rattle.tables.specs.Limits.{executionMax}
 use Rattle.numbers.proofs.Number.{the-type}
@@ -59,24 +59,20 @@ then-two out step then more found e = by step ∙ ap (λ (x : Two). andThen out 
     by (Read v next) = refl
     by (Refused r) = refl
 
--- a number that neither ended nor has a value
-bad-form : (size at : ℕ) (found : Number) →
-    OneOf (0 ∷ 2 ∷ 3 ∷ []) (tagOf the-type found) → OneOf (1 ∷ 2 ∷ 3 ∷ []) (tagOf the-type found) →
-    stepOf size at found ≡ Refused (refusal badForm at)
-bad-form size at (Value v n) g h = absurd (⊎-elim (λ e. omega arith) (⊎-elim (λ e. omega arith) (λ e. omega arith)) h)
-bad-form size at Ended g h = absurd (⊎-elim (λ e. omega arith) (⊎-elim (λ e. omega arith) (λ e. omega arith)) g)
-bad-form size at TooLong g h = refl
-bad-form size at (NotShortest v n) g h = refl
+-- a number that neither ended nor is padded nor has a value
+pub left-long : (found : Number) →
+    OneOf (0 ∷ 2 ∷ 3 ∷ []) (tagOf the-type found) → OneOf (0 ∷ 1 ∷ 2 ∷ []) (tagOf the-type found) → OneOf (1 ∷ 2 ∷ 3 ∷ []) (tagOf the-type found) →
+    found ≡ TooLong
+left-long (Value v n) e p h = absurd (⊎-elim (λ x. omega arith) (⊎-elim (λ x. omega arith) (λ x. omega arith)) h)
+left-long Ended e p h = absurd (⊎-elim (λ x. omega arith) (⊎-elim (λ x. omega arith) (λ x. omega arith)) e)
+left-long TooLong e p h = refl
+left-long (NotShortest v n) e p h = absurd (⊎-elim (λ x. omega arith) (⊎-elim (λ x. omega arith) (λ x. omega arith)) p)
 
 -- what the number reader found in the part that it was handed
 module _ (s : List ℕ) (at : ℕ) (found : Number) (e : found ≡ number recordMore (take (length s - at) (drop at s))) where
   pub whole-is : (r : Number) → found ≡ r → whole s at ≡ stepOf (length s) at r
   unfolding whole
   whole-is r d = ap (stepOf (length s) at) (ap (number recordMore) (sym (part-from at s)) ∙ sym e ∙ d)
-
-  pub whole-bad : OneOf (0 ∷ 2 ∷ 3 ∷ []) (tagOf the-type found) → OneOf (1 ∷ 2 ∷ 3 ∷ []) (tagOf the-type found) →
-      whole s at ≡ Refused (refusal badForm at)
-  whole-bad g h = whole-is found refl ∙ bad-form (length s) at found g h
 
 -- a number that is not whole; one that is, outside its range and in it
 pub ranged-refused : (broken low high : ℕ) (s : List ℕ) (at : ℕ) (r : Refusal) → whole s at ≡ Refused r →

@@ -1,4 +1,4 @@
--- Refusals 1 to 9 by their rules. What the definition of reading still does from a place on depends only on what is expected there; so along
+-- The reader's refusals by their rules. What the definition of reading still does from a place on depends only on what is expected there; so along
 -- the numbers that are fine it is the reading of what is left. Every number is fine or is not, each fine one takes a byte at least, and so
 -- every input comes to a refusal or to its table.
 use Prim.Native.Nat.{ℕ, zero, suc, _+_, _-_, _^_, _≤_, _<_}
@@ -16,7 +16,7 @@ use Rattle.plain.proofs.Lists.{lt-or-ge}
 use Rattle.refusals.specs.declared.Refusal.{Refusal}
 use Rattle.refusals.specs.Refusal.{refusal}
 use Rattle.refusals.specs.declared.Outcome.the-variants as outcome
-use Rattle.refusals.specs.Numbers.{ended, badForm, badEdition, badId, badPeriod, badCount, badExecution}
+use Rattle.refusals.specs.Numbers.{ended, tooLong, badEdition, badId, badPeriod, badCount, badExecution, notShortest}
 use Rattle.refusals.specs.Readers.{isIn, isReaders}
 use Rattle.tables.specs.declared.TaskTable.{TaskTable}
 use Rattle.tables.specs.Limits.{idMax, periodMax, countMax, executionMax}
@@ -114,11 +114,11 @@ module _ (s : List ℕ) (at : ℕ) where
   unfolding whole
   ends-read (k, h, l) = ap (stepOf (length s) at) (forms.ends-read recordMore l h)
 
-  long-read : Long recordMore (drop at s) → whole s at ≡ Refused (refusal badForm at)
+  long-read : Long recordMore (drop at s) → whole s at ≡ Refused (refusal tooLong at)
   unfolding whole
   long-read (rest, l) = ap (stepOf (length s) at) (forms.long-read recordMore l)
 
-  padded-read : Padded recordMore (drop at s) → whole s at ≡ Refused (refusal badForm at)
+  padded-read : Padded recordMore (drop at s) → whole s at ≡ Refused (refusal notShortest at)
   unfolding whole
   padded-read (k, rest, z, h, l) = ap (stepOf (length s) at) (forms.padded-read recordMore l z h .2)
 

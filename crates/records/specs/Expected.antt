@@ -5,7 +5,7 @@ use mathlib.Core.List.{List}
 use lib.ListN.{length, drop}
 use lib.Dec.{ltb}
 use Rattle.plain.specs.Pick.{pick}
-use Rattle.refusals.specs.Numbers.{ended, badForm, badEdition, badId, badPeriod, badCount, badExecution, badParent, bytesFollow}
+use Rattle.refusals.specs.Numbers.{ended, tooLong, badEdition, badId, badPeriod, badCount, badExecution, badParent, bytesFollow, notShortest}
 use Rattle.tables.specs.declared.TaskTable.{TaskTable}
 use Rattle.tables.specs.Limits.{idMax, periodMax, countMax, executionMax}
 use Rattle.numbers.specs.Number.{recordMore}
@@ -68,11 +68,11 @@ pub data Expects (bytes : List ℕ) : (place : ℕ) → Next → Type 0 where
   begin : Expects bytes 0 (number edition)
   on : {place v n : ℕ} {due : Due} → Expects bytes place (number due) → Whole recordMore (drop place bytes) v n → range due .low ≤ v → v ≤ range due .high → Expects bytes (place + n) (after due v)
 
--- "Refusal numbers and their order", 1 to 9: the number, and the place that is told with it
+-- "Refusal numbers and their order", 1 to 9 and 18: the number, and the place that is told with it
 pub data Refuses (bytes : List ℕ) : (number place : ℕ) → Type 0 where
   ends : {place : ℕ} {due : Due} → Expects bytes place (number due) → Ends recordMore (drop place bytes) → Refuses bytes ended (length bytes)
-  long : {place : ℕ} {due : Due} → Expects bytes place (number due) → Long recordMore (drop place bytes) → Refuses bytes badForm place
-  padded : {place : ℕ} {due : Due} → Expects bytes place (number due) → Padded recordMore (drop place bytes) → Refuses bytes badForm place
+  long : {place : ℕ} {due : Due} → Expects bytes place (number due) → Long recordMore (drop place bytes) → Refuses bytes tooLong place
+  padded : {place : ℕ} {due : Due} → Expects bytes place (number due) → Padded recordMore (drop place bytes) → Refuses bytes notShortest place
   outside : {place v n : ℕ} {due : Due} → Expects bytes place (number due) → Whole recordMore (drop place bytes) v n → (v < range due .low) ⊎ (range due .high < v) → Refuses bytes (range due .broken) place
   follow : {place : ℕ} {t : TaskTable} → Expects bytes place (nothing t) → place < length bytes → Refuses bytes bytesFollow place
 

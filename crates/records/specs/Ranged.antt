@@ -1,11 +1,11 @@
--- "Each number is read whole (1, 2) before its range is tried."
+-- "Each number is read whole (1, 2) before its range is tried.", and in shortest form (18).
 use Prim.Native.Nat.{ℕ, _+_}
 use mathlib.Core.Bool.{_&&_}
 use mathlib.Core.List.{List}
 use lib.ListN.{length, drop}
 use lib.Dec.{leb}
 use Rattle.plain.specs.Pick.{pick}
-use Rattle.refusals.specs.Numbers.{ended, badForm}
+use Rattle.refusals.specs.Numbers.{ended, tooLong, notShortest}
 use Rattle.numbers.specs.declared.Number.{Number}
 use Rattle.numbers.specs.declared.Number.the-variants.{Value, Ended, TooLong, NotShortest}
 use Rattle.numbers.specs.Number.{number, recordMore}
@@ -14,12 +14,12 @@ use Rattle.records.specs.declared.Step.the-variants.{Read, Refused}
 use Rattle.refusals.specs.Refusal.{refusal}
 use Rattle.records.specs.Step.{andThen}
 
--- 1 stands at the "input length", 2 at the "number's first byte": what was found at `at` of an input of `size` bytes
+-- 1 stands at the "input length", 2 at the "number's first byte", and 18 at the "same place as 2": what was found at `at` of an input of `size` bytes
 abbrev pub stepOf : ℕ → ℕ → Number → Step
 stepOf size at (Value v n) = Read v (at + n)
 stepOf size at Ended = Refused (refusal ended size)
-stepOf size at TooLong = Refused (refusal badForm at)
-stepOf size at (NotShortest v n) = Refused (refusal badForm at)
+stepOf size at TooLong = Refused (refusal tooLong at)
+stepOf size at (NotShortest v n) = Refused (refusal notShortest at)
 
 -- "The reader works on the rest of the record from the byte it has reached."
 unfoldable pub whole : List ℕ → ℕ → Step

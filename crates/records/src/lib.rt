@@ -51,8 +51,11 @@ fn read_whole(bytes: &[u8], at: usize) -> Step
     if let Number::Ended = found {
         return refuse(Refusal::ENDED, bytes.len());
     }
+    if let Number::NotShortest { .. } = found {
+        return refuse(Refusal::NOT_SHORTEST, at);
+    }
     let Number::Value { value, length } = found else {
-        return refuse(Refusal::BAD_FORM, at);
+        return refuse(Refusal::TOO_LONG, at);
     };
     Step::Read {
         value,

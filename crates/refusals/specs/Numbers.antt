@@ -1,13 +1,13 @@
--- The refusal numbers of document 01's table "Refusal numbers and their order", each by a name.
+-- The refusal numbers of document 01's table "Refusal numbers and their order", and those that requests added, each by a name.
 use Prim.Native.Nat.{ℕ}
 
 -- the input ends before a needed byte
 abbrev pub ended : ℕ
 ended = 1
 
--- a fourth byte has its top bit set, or the form isn't the shortest
-abbrev pub badForm : ℕ
-badForm = 2
+-- a fourth byte has its top bit set
+abbrev pub tooLong : ℕ
+tooLong = 2
 
 -- edition isn't 1
 abbrev pub badEdition : ℕ
@@ -68,3 +68,7 @@ fewWords = 16
 -- the lent board isn't sound
 abbrev pub unsoundBoard : ℕ
 unsoundBoard = 17
+
+-- the form isn't the shortest
+abbrev pub notShortest : ℕ
+notShortest = 18

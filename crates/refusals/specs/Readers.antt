@@ -3,11 +3,11 @@ use mathlib.Core.Bool.{Bool, false, _||_}
 use mathlib.Core.List.{List, [], _∷_}
 use Prim.Native.Nat.{ℕ}
 use lib.Dec.{eqb}
-use Rattle.refusals.specs.Numbers.{ended, badForm, badEdition, badId, badPeriod, badCount, badExecution, badParent, bytesFollow}
+use Rattle.refusals.specs.Numbers.{ended, tooLong, badEdition, badId, badPeriod, badCount, badExecution, badParent, bytesFollow, notShortest}
 
--- "1 to 9 as met"
+-- "1 to 9 as met", and 18 with them
 abbrev pub readers : List ℕ
-readers = ended ∷ badForm ∷ badEdition ∷ badId ∷ badPeriod ∷ badCount ∷ badExecution ∷ badParent ∷ bytesFollow ∷ []
+readers = ended ∷ tooLong ∷ badEdition ∷ badId ∷ badPeriod ∷ badCount ∷ badExecution ∷ badParent ∷ bytesFollow ∷ notShortest ∷ []
 
 -- the number is one of these
 unfoldable pub isIn : ℕ → List ℕ → Bool

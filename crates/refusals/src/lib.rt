@@ -2,7 +2,7 @@
 ghost use mathlib.Core.Path.{_≡_};
 ghost use Rattle.refusals.specs.Refusal.{refusal};
 ghost use Rattle.refusals.specs.Answer.{accepted, refused, answerOf};
-ghost use Rattle.refusals.specs.Numbers.{ended, badForm, badEdition, badId, badPeriod, badCount, badExecution, badParent, bytesFollow, loop, longPath, idStands, boardFull, notStanding, badCores, fewWords, unsoundBoard};
+ghost use Rattle.refusals.specs.Numbers.{ended, tooLong, badEdition, badId, badPeriod, badCount, badExecution, badParent, bytesFollow, loop, longPath, idStands, boardFull, notStanding, badCores, fewWords, unsoundBoard, notShortest};
 
 // A number of the table and a place: a byte of the input, or 0.
 pub struct Refusal {
@@ -13,7 +13,7 @@ pub struct Refusal {
 impl Refusal {
     pub const ENDED: u64 = 1;
 
-    pub const BAD_FORM: u64 = 2;
+    pub const TOO_LONG: u64 = 2;
 
     pub const BAD_EDITION: u64 = 3;
 
@@ -44,6 +44,8 @@ impl Refusal {
     pub const FEW_WORDS: u64 = 16;
 
     pub const UNSOUND_BOARD: u64 = 17;
+
+    pub const NOT_SHORTEST: u64 = 18;
 
     pub fn of(number: u64, place: usize) -> Self
         ensures { λ r. ⌜ r ≡ refusal number place ⌝ }
@@ -101,7 +103,7 @@ pub fn answer_of(outcome: Outcome) -> Answer
 // Each constant is the number that specs/ gives the name.
 pub fn constants_named()
     ensures { λ _. do ⌜ (← ⟦Refusal::ENDED⟧ .entry) ≡ ended ⌝ }
-    ensures { λ _. do ⌜ (← ⟦Refusal::BAD_FORM⟧ .entry) ≡ badForm ⌝ }
+    ensures { λ _. do ⌜ (← ⟦Refusal::TOO_LONG⟧ .entry) ≡ tooLong ⌝ }
     ensures { λ _. do ⌜ (← ⟦Refusal::BAD_EDITION⟧ .entry) ≡ badEdition ⌝ }
     ensures { λ _. do ⌜ (← ⟦Refusal::BAD_ID⟧ .entry) ≡ badId ⌝ }
     ensures { λ _. do ⌜ (← ⟦Refusal::BAD_PERIOD⟧ .entry) ≡ badPeriod ⌝ }
@@ -117,4 +119,5 @@ pub fn constants_named()
     ensures { λ _. do ⌜ (← ⟦Refusal::BAD_CORES⟧ .entry) ≡ badCores ⌝ }
     ensures { λ _. do ⌜ (← ⟦Refusal::FEW_WORDS⟧ .entry) ≡ fewWords ⌝ }
     ensures { λ _. do ⌜ (← ⟦Refusal::UNSOUND_BOARD⟧ .entry) ≡ unsoundBoard ⌝ }
+    ensures { λ _. do ⌜ (← ⟦Refusal::NOT_SHORTEST⟧ .entry) ≡ notShortest ⌝ }
 {}

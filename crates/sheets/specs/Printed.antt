@@ -21,7 +21,7 @@ headOf t = record { id = t .id; period = t .period; work = work t; path = path t
 abbrev pub tableSheet : TaskTable → List ℕ
 tableSheet t = sheetText (headOf t) (written t (replicate wordsMax 0))
 
--- the sheet of a record: 1 to 9 as met, 10, 11, else the plan
+-- the sheet of a record: the reader's refusals as met, 10, 11, else the plan
 abbrev pub sheetOf : List ℕ → List ℕ
 sheetOf bytes = onTask refusedLine tableSheet bytes
 

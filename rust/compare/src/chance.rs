@@ -3,7 +3,7 @@
 use crate::boards::{random_board, SPOILS};
 use crate::case::Call;
 use crate::random::Random;
-use crate::records::{random_bytes, spoilt};
+use crate::records::{misspelt, random_bytes, spoilt};
 use crate::tasks::{random_task, task_of};
 use reference::Row;
 
@@ -14,11 +14,12 @@ pub fn old_words(random: &mut Random, length: usize) -> Vec<u64> {
 }
 
 pub fn any_record(random: &mut Random) -> Vec<u8> {
-    let record = random_task(random).record();
+    let task = random_task(random);
     match random.below(6) {
         0 => random_bytes(random),
-        1 => spoilt(random, record),
-        _ => record,
+        1 => spoilt(random, task.record()),
+        2 => misspelt(random, &task.numbers()),
+        _ => task.record(),
     }
 }
 

@@ -6,7 +6,7 @@ use crate::case::{difference, Call, Case};
 use crate::chance::{any_board, any_call, any_record, board_calls, old_words};
 use crate::random::Random;
 use crate::records::{
-    bad_forms, encoded, random_bytes, samples, short_lists, spoilt, with_form, WORKED,
+    bad_forms, encoded, misspelt, random_bytes, samples, short_lists, spoilt, with_form, WORKED,
 };
 use crate::tasks::{random_task, task_of};
 use ffi::task::Task;
@@ -264,6 +264,11 @@ impl Run {
             17..=24 => {
                 let record = random_task(random).record();
                 let record = spoilt(random, record);
+                self.plan(record)
+            }
+            25..=32 => {
+                let numbers = random_task(random).numbers();
+                let record = misspelt(random, &numbers);
                 self.plan(record)
             }
             _ => {

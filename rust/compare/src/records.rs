@@ -60,17 +60,15 @@ pub fn with_form(numbers: &[u64], at: usize, form: &[u8]) -> Vec<u8> {
     record
 }
 
-/// Ways to write a number that are too long, cut, or both.
+/// One for fields that begin at 1, for counts and parents, for ids and executions,
+/// for periods.
+const OUT_OF_RANGE: [u64; 4] = [0, 65, 65_536, 16_777_216];
+
+/// Ways to write a number, or one out of range, that are padded, too long, cut,
+/// or two of these.
 pub fn bad_forms(value: u64) -> Vec<Vec<u8>> {
-    let shortest = number(value);
-    let padded = |length: usize| {
-        let mut form = shortest.clone();
-        form.resize(length, 0);
-        let (_, before) = form.split_last_mut().expect("lengths are above 0");
-        before.iter_mut().for_each(|byte| *byte |= 0x80);
-        form
-    };
-    let mut forms: Vec<Vec<u8>> = (shortest.len() + 1..=6).map(padded).collect();
+    let mut forms = padded(value);
+    forms.extend(OUT_OF_RANGE.into_iter().flat_map(padded));
     for length in 1..=5 {
         forms.push(vec![0x80; length]);
         forms.push(vec![0xFF; length]);
@@ -78,6 +76,31 @@ pub fn bad_forms(value: u64) -> Vec<Vec<u8>> {
     forms.push(vec![0xFF, 0xFF, 0xFF, 0x7F]);
     forms.push(vec![0x80, 0x80, 0x80, 0x01]);
     forms
+}
+
+/// A number with groups of zeros after it, up to six bytes.
+fn padded(value: u64) -> Vec<Vec<u8>> {
+    let shortest = number(value);
+    let form = |length: usize| {
+        let mut form = shortest.clone();
+        form.resize(length, 0);
+        let (_, before) = form.split_last_mut().expect("lengths are above 0");
+        before.iter_mut().for_each(|byte| *byte |= 0x80);
+        form
+    };
+    (shortest.len() + 1..=6).map(form).collect()
+}
+
+/// A record with one number in a bad form; sometimes it ends there.
+pub fn misspelt(random: &mut Random, numbers: &[u64]) -> Vec<u8> {
+    let at = random.index(numbers.len());
+    let forms = bad_forms(numbers[at]);
+    let form = &forms[random.index(forms.len())];
+    let mut record = with_form(numbers, at, form);
+    if random.one_in(4) {
+        record.truncate(encoded(&numbers[..at]).len() + form.len());
+    }
+    record
 }
 
 /// A record with one to three changes of its bytes.

@@ -18,7 +18,7 @@ impl Table {
     pub const LARGEST_COUNT: usize = 64;
     pub const LARGEST_EXECUTION: u64 = 65_535;
 
-    /// Refusals 1 to 9, in the order they are met.
+    /// Refusals 1 to 9 and 18, in the order they are met.
     pub fn read(record: &[u8]) -> Result<Table, Refusal> {
         let mut reader = Reader { record, at: 0 };
         reader.within(1, 1, Rule::Edition)?;
@@ -94,14 +94,14 @@ impl Reader<'_> {
             value |= u64::from(byte & 0x7f) << (7 * group);
             // A last byte of 0 after others would be a longer form than needed.
             if byte == 0 && group > 0 {
-                break;
+                return Err(Refusal::at(Rule::NotShortest, self.at));
             }
             if byte < 0x80 {
                 self.at += group + 1;
                 return Ok(value);
             }
         }
-        Err(Refusal::at(Rule::Form, self.at))
+        Err(Refusal::at(Rule::TooLong, self.at))
     }
 
     fn end(&self) -> Result<(), Refusal> {

@@ -1,10 +1,10 @@
 //! The refusal numbers and the place that goes with them.
 
-/// Why a call refuses, with document 01's number for it.
+/// Why a call refuses, with the documents' number for it.
 #[derive(Clone, Copy, Debug)]
 pub enum Rule {
     InputEnds = 1,
-    Form = 2,
+    TooLong = 2,
     Edition = 3,
     Id = 4,
     Period = 5,
@@ -20,6 +20,7 @@ pub enum Rule {
     Cores = 15,
     ShortPlan = 16,
     UnsoundBoard = 17,
+    NotShortest = 18,
 }
 
 /// A rule and the byte it was broken at.

@@ -109,6 +109,7 @@ fn listing() {
 fn refused_sheets() {
     assert_eq!(sheet(&[1, 7, 5, 1, 5, 1, 0]), b"refused 10 at 0\n");
     assert_eq!(sheet(&[]), b"refused 1 at 0\n");
+    assert_eq!(sheet(&[0x80, 0x00]), b"refused 18 at 0\n");
     assert_eq!(sheet(&[1; 9_000]), b"refused 8 at 6\n");
 }
 
@@ -124,11 +125,17 @@ fn loops() {
 #[test]
 fn numbers() {
     assert_eq!(plan_refusal(&[]), refused(1, 0));
-    assert_eq!(plan_refusal(&[0x80, 0x00]), refused(2, 0));
+    assert_eq!(plan_refusal(&[0x80, 0x00]), refused(18, 0));
     assert_eq!(plan_refusal(&[0x80]), refused(1, 1));
     assert_eq!(plan_refusal(&[0x81, 0x80, 0x80]), refused(1, 3));
     assert_eq!(plan_refusal(&[0x81, 0x80, 0x80, 0x80]), refused(2, 0));
-    assert_eq!(plan_refusal(&[0x81, 0x80, 0x80, 0x00]), refused(2, 0));
+    assert_eq!(plan_refusal(&[0x81, 0x80, 0x80, 0x00]), refused(18, 0));
+    // Both faults at once: the fourth byte decides.
+    assert_eq!(plan_refusal(&[0x80, 0x80, 0x80, 0x80, 0]), refused(2, 0));
+    // Edition 2, id 0 and period 0: a form is told before a range.
+    assert_eq!(plan_refusal(&[0x82, 0x00]), refused(18, 0));
+    assert_eq!(plan_refusal(&[1, 0x80, 0x00]), refused(18, 1));
+    assert_eq!(plan_refusal(&[1, 7, 0x80, 0x80, 0x00]), refused(18, 2));
     assert_eq!(plan_refusal(&[1, 7, 0x80, 0x80, 0x80, 0x08]), refused(5, 2));
     let largest = [1, 7, 0xFF, 0xFF, 0xFF, 0x07, 1, 5, 0];
     assert_eq!(planned(&largest)[5], 16_777_215 * 5);
