@@ -34,7 +34,7 @@ recordRules bytes =
     ∷ rule 11 (taskOf bytes .period < path (taskOf bytes))
     ∷ []
 
--- a number is expected at a place, and its bytes there have this fault
+-- "number's first byte": a number is expected at this place, and its bytes from there on have the fault
 abbrev pub Faulty : (fault : List ℕ → Type 0) → (bytes : List ℕ) (place : ℕ) → Type 0
 Faulty fault bytes place = (due : Due) × Expects bytes place (number due) × fault (drop place bytes)
 

@@ -213,16 +213,12 @@ pub fn read_record(bytes: &[u8]) -> Reading
         TaskTable::ID_MAX,
     );
     let first = named.step;
-    let Step::Read {
-        value: id,
-        next: after,
-    } = first
-    else {
+    let Step::Read { value: id, next } = first else {
         return rejected(first);
     };
     let timed = read_two(
         bytes,
-        after,
+        next,
         Refusal::BAD_PERIOD,
         TaskTable::PERIOD_MAX,
         Refusal::BAD_COUNT,

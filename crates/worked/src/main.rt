@@ -165,8 +165,8 @@ fn tables() {
     );
 }
 
-// The slips, each on a record where it would show.
-fn slips() {
+// The slips of a plan, each on a record where it would show.
+fn plan_slips() {
     planned(
         b"m x (2T - P) equal to C is light",
         b"\x01\x09\x04\x04\x02\x00\x01\x01\x00\x01\x01\x00\x01\x01\x00",
@@ -187,6 +187,10 @@ fn slips() {
         b"\x01\x03\x06\x03\x03\x00\x01\x00\x01\x01\x01",
         &LISTING,
     );
+}
+
+// The slips of a board, and of a reader.
+fn board_slips() {
     not_withdrawn(b"id 0 finds no free row to withdraw", 0);
     alone(
         b"densities are rounded up: no on 1 core",
@@ -210,5 +214,6 @@ fn slips() {
 
 fn main() {
     tables();
-    slips();
+    plan_slips();
+    board_slips();
 }
