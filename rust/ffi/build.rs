@@ -16,6 +16,7 @@ fn main() {
     let library = folder.join("libplanner.a");
     println!("cargo::rerun-if-env-changed=PLANNER_LIB_DIR");
     println!("cargo::rerun-if-changed={}", library.display());
+    println!("cargo::rustc-env=PLANNER_LIBRARY={}", library.display());
     println!("cargo::rustc-link-search=native={}", folder.display());
     println!("cargo::rustc-link-lib=static=planner");
     if !library.exists() {

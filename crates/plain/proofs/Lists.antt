@@ -1,12 +1,11 @@
 -- Lists by index: a list made by a rule reads back as the rule, because both go by the same index; an array that a loop fills from the
--- front reads as the rule below the loop's counter and as before from there on, and one that a loop fills along a list reads as the rule at
--- the entries that it has passed.
+-- front reads as the rule below the loop's counter and as before from there on.
 use mathlib.Core.Path.{_≡_, refl, sym, ap, _∙_}
 use mathlib.Core.Logic.{_⊎_, inl, inr}
 use mathlib.Core.List.{List}
 use Prim.Native.Nat.{ℕ, zero, suc, _+_, _-_, _≤_, _<_}
 use native.Mathlib.Nat.{le-of-suc-le-suc, not-suc-le-zero}
-use native.Mathlib.Decide.{decLt, ℕ-discrete}
+use native.Mathlib.Decide.{decLt}
 use native.Mathlib.Omega.{arith}
 use lib.ListN.{length, take, drop, length-drop, replicate, length-replicate, set, length-set, List·getD-eq-default}
 use lib.Seq.{take-all, getD-set-same, getD-set-other}
@@ -72,32 +71,3 @@ fill-more {f} {g} {m} {v} {out} x l e i = record {
 
     ne′ : (w : ℕ) → v + 1 ≤ w → w ≡ v → ⊥
     ne′ w h q = omega arith
-
--- an array of m that a loop fills along a list l: after i entries these have what the rule f says, and all others have 0
-pub record Passed (f : ℕ → ℕ) (m : ℕ) (l : List ℕ) (i : ℕ) (out : List ℕ) : Type 0 where
-  pub size : length out ≡ m
-  pub done : (k : ℕ) → k < i → at out (at l k) ≡ f (at l k)
-  pub rest : (v : ℕ) → ((k : ℕ) → k < i → at l k ≡ v → ⊥) → at out v ≡ 0
-
-module _ {f : ℕ → ℕ} {m : ℕ} {l : List ℕ} where
-  -- before the first turn
-  pub pass-none : Passed f m l 0 (replicate m 0)
-  pass-none = record { size = length-replicate m 0; done = λ k h. absurd (not-suc-le-zero h); rest = λ v h. at-replicate m v }
-
-  -- after one turn more; an entry met again gets the same again
-  pub pass-more : {i : ℕ} {out : List ℕ} (x : ℕ) → at l i < m → x ≡ f (at l i) → Passed f m l i out → Passed f m l (i + 1) (set out (at l i) x)
-  pass-more {i} {out} x h e z = record {
-    size = length-set out (at l i) x ∙ z .size;
-    done = below-more (λ k. at (set out (at l i) x) (at l k) ≡ f (at l k)) i (λ k g. elim (ℕ-discrete (at l k) (at l i)) [
-      | yes q ↦ rw q here
-      | no q ↦ getD-set-other out (at l i) (at l k) x 0 q ∙ z .done k g
-    ]) here;
-    rest = λ v n. getD-set-other out (at l i) v x 0 (λ q. n i (omega arith) (sym q)) ∙ z .rest v (λ k g. n k (omega arith));
-  }
-    where
-      here : at (set out (at l i) x) (at l i) ≡ f (at l i)
-      here = getD-set-same out (at l i) x 0 (rw (z .size) h) ∙ e
-
-  -- what an entry has
-  pub pass-has : {i : ℕ} {out : List ℕ} {v : ℕ} → Passed f m l i out → (k : ℕ) × (k < i) × (at l k ≡ v) → at out v ≡ f v
-  pass-has z w = rw (w .2) at (z .done (w .0) (w .1))

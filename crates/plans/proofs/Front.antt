@@ -10,10 +10,10 @@ use Rattle.tables.specs.declared.TaskTable.{TaskTable}
 use Rattle.segments.specs.Inner.Words.{CutWords}
 use Rattle.shares.specs.Triples.{triples}
 use Rattle.shares.specs.Inner.Written.{Numbered}
-use Rattle.shares.proofs.Edges.{HoldsSegments}
+use Rattle.shares.proofs.Holding.{HoldsSegments}
 use Rattle.shares.proofs.Numbering.{numbered-holds, rest-same}
 use Rattle.shares.proofs.Triples.{hold-triples, length-triples}
-use Rattle.plans.specs.Diagram.{start, finish, work, path, segmentCount, threadsIn, lengthIn}
+use Rattle.plans.specs.Diagram.{work, path, segmentCount, threadsIn, lengthIn}
 use Rattle.plans.specs.Shares.{over, dealOf, numeratorOf}
 use Rattle.plans.specs.Words.{frontWords, nodeWords, written}
 
@@ -24,7 +24,7 @@ headed q s n (a ∷ []) h = absurd (omega arith)
 headed q s n (a ∷ b ∷ []) h = absurd (omega arith)
 headed q s n (a ∷ b ∷ c ∷ r) h = refl
 
-module _ (t : TaskTable) {w₀ w₁ w₂ : List ℕ} (cut : CutWords (t .count) (start t) (finish t) (segmentCount t) w₀ w₁) (given : Numbered (dealOf t) (t .period) (work t) (path t) (segmentCount t) w₁ w₂) (room : 3 + 3 * segmentCount t ≤ length w₂) where
+module _ (t : TaskTable) {w₀ w₁ w₂ : List ℕ} (cut : CutWords (threadsIn t) (lengthIn t) (segmentCount t) w₀ w₁) (given : Numbered (dealOf t) (t .period) (work t) (path t) (segmentCount t) w₁ w₂) (room : 3 + 3 * segmentCount t ≤ length w₂) where
   -- the words hold the table's segments
   holds : HoldsSegments w₂ (segmentCount t) (threadsIn t) (lengthIn t) (numeratorOf t)
   unfolding numeratorOf

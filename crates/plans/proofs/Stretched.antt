@@ -2,7 +2,7 @@
 -- D is monotone and D(0) is 0, so the greatest D(finish) of the parents is D of their greatest finish, which is D(start): offset plus deadline,
 -- D(finish), obeys the rule of longest ways over the deadlines, and nothing else does.
 use mathlib.Core.Path.{_≡_, sym, ap, _∙_}
-use mathlib.Core.Logic.{_⊎_, inl, inr, ⊎-elim}
+use mathlib.Core.Logic.{⊎-elim}
 use mathlib.Core.List.{List}
 use Prim.Native.Nat.{ℕ, zero, suc, _≤_, _<_, max}
 use native.Mathlib.Nat.{max-zero}
@@ -14,12 +14,11 @@ use Rattle.sets.specs.Greatest.{kept, greatest}
 use Rattle.ways.specs.Reaches.{Reaches}
 use Rattle.ways.specs.Inner.Tidy.{Tidy}
 use Rattle.ways.specs.Ways.{begins, ends, endBy}
-use Rattle.ways.proofs.Closure.{rank, rank-falls}
-use Rattle.ways.proofs.Ways.{at-begins, only-rule, ends-begins, begin-is}
-use Rattle.segments.specs.Inner.Diagram.{Diagram}
+use Rattle.ways.proofs.Ways.{at-begins, only-rule, ends-begins}
 use Rattle.segments.specs.Share.{share}
 use Rattle.segments.specs.Inner.By.{by}
 use Rattle.segments.proofs.Shares.{by-mono, by-zero, share-by}
+use Rattle.diagrams.proofs.Diagram.{diagram}
 
 -- a monotone g with g 0 = 0 goes through the greatest over a set
 greatest-through : (d s : ℕ) (f g : ℕ → ℕ) → g 0 ≡ 0 → ((x y : ℕ) → x ≤ y → g x ≤ g y) → greatest d s (λ k. g (f k)) ≡ g (greatest d s f)
@@ -45,14 +44,6 @@ module _ (P X : List ℕ) (n : ℕ) (ok : Tidy P n) (free : (v : ℕ) → Reache
   abbrev F : ℕ → ℕ
   F = at (ends P X n)
 
-  -- a table without a loop has a timing diagram
-  pub diagram : Diagram n S F (at X)
-  diagram = record {
-    rank = rank P n;
-    ends = λ v h. ends-begins P X n ok free v h;
-    begins = λ v h. ⊎-elim (λ (e : S v ≡ 0). inl e) (λ w. inr (w .0, w .1, w .3, rank-falls P n ok free v (w .0) (w .2))) (begin-is P X n v h);
-  }
-
   -- W: the nodes' deadlines, where segment j is given f j
   module _ (f : ℕ → ℕ) where
     abbrev W : List ℕ
@@ -64,7 +55,7 @@ module _ (P X : List ℕ) (n : ℕ) (ok : Tidy P n) (free : (v : ℕ) → Reache
       where
         obeys : (v : ℕ) → v < n → by n F f (F v) ≡ endBy P W n (λ p. by n F f (F p)) v
         obeys v h =
-            let a = share-by diagram f v h in
+            let a = share-by (diagram P X n ok free) f v h in
             let b = greatest-through n (at P v) F (by n F f) (by-zero n F f) (by-mono n F f) in
             let c = ap (by n F f) (at-begins P X n v h) in
             let d = at-tab n (share n S F f) v h in
@@ -76,5 +67,5 @@ module _ (P X : List ℕ) (n : ℕ) (ok : Tidy P n) (free : (v : ℕ) → Reache
         let a = ends-stretched v h in
         let b = ends-begins P W n ok free v h in
         let c = at-tab n (share n S F f) v h in
-        let d = share-by diagram f v h in
+        let d = share-by (diagram P X n ok free) f v h in
         omega arith

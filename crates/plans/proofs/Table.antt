@@ -20,11 +20,11 @@ use Rattle.segments.proofs.Cuts.{cut-none}
 use Rattle.segments.proofs.Segments.{before-segment, lengthOf-pos, lengths-sum}
 use Rattle.segments.proofs.Diagram.{some-thread}
 use Rattle.segments.proofs.Shares.{work-sum}
+use Rattle.diagrams.proofs.Diagram as diagrams
 use Rattle.shares.specs.Inner.Segmented.{Segmented}
 use Rattle.plans.specs.Diagram.{start, finish, work, path, segmentCount, threadsIn, lengthIn}
 use Rattle.plans.specs.Accepted.{Accepted}
 use Rattle.plans.specs.Inner.Planned.{Planned}
-use Rattle.plans.proofs.Stretched as stretched
 
 module _ {t : TaskTable} (r : Plannable t) where
   -- the parent sets are in range
@@ -37,16 +37,16 @@ module _ {t : TaskTable} (r : Plannable t) where
     free = loops-no (t .parents) (t .count) tidy f
 
     pub diagram : Diagram (t .count) (start t) (finish t) (at (t .execution))
-    diagram = stretched.diagram (t .parents) (t .execution) (t .count) tidy free
+    diagram = diagrams.diagram (t .parents) (t .execution) (t .count) tidy free
+
+-- the path is the latest finish
+pub path-latest : (t : TaskTable) → path t ≡ latest (t .count) (finish t)
+unfolding pathOf
+path-latest t = refl
 
 module _ {t : TaskTable} (ok : Planned t) where
   pub drawn : Diagram (t .count) (start t) (finish t) (at (t .execution))
   drawn = diagram (ok .range) (ok .free)
-
-  -- the path is the latest finish
-  pub path-latest : path t ≡ latest (t .count) (finish t)
-  unfolding pathOf
-  path-latest = refl
 
   -- a node that runs finishes after 0, so there is a segment
   pub segment-some : 0 < segmentCount t
@@ -56,14 +56,14 @@ module _ {t : TaskTable} (ok : Planned t) where
       let b = drawn .ends (runs .0) (runs .1) in
       let c = path-ge (t .parents) (t .execution) (t .count) (runs .0) in
       let d = cut-none (t .count) (finish t) in
-      let e = path-latest in
+      let e = path-latest t in
       before-segment (t .count) (finish t) 0 (omega arith)
 
   -- what the shares ask of the cut
   pub cutting : Segmented (t .period) (work t) (path t) (segmentCount t) (threadsIn t) (lengthIn t)
   unfolding workOf
   cutting = record {
-    path = path-latest ∙ sym (lengths-sum (t .count) (finish t));
+    path = path-latest t ∙ sym (lengths-sum (t .count) (finish t));
     work = sym (work-sum drawn (ok .range .count-high));
     threads = some-thread drawn (ok .range .count-high);
     lengths = lengthOf-pos (t .count) (finish t);

@@ -1,10 +1,10 @@
 -- What a table comes to by the tests that the planner makes, in their order.
-use mathlib.Core.Path.{_≡_, refl, ap}
+use mathlib.Core.Path.{_≡_, refl, sym, ap, _∙_}
 use mathlib.Core.Bool.{Bool, true, false}
 use mathlib.Core.List.{List}
 use Prim.Native.Nat.{ℕ, _≤_, _<_}
 use native.Mathlib.Omega.{arith}
-use borrow.Author.Tests.{lt-ltb, le-ltb, eq-eqb, ne-eqb}
+use borrow.Author.Tests.{lt-ltb, le-ltb, ltb-false, eq-eqb, ne-eqb}
 use lib.Dec.{ltb}
 use lib.ListN.{length}
 use Rattle.plain.specs.Pick.{pick}
@@ -20,8 +20,8 @@ use Rattle.ways.specs.Closure.{loops}
 use Rattle.plans.specs.Diagram.{path}
 use Rattle.plans.specs.Words.{wordsMax}
 use Rattle.plans.specs.Calls.{onTable, taskOf, onTask, unplanned, planned, planCall}
-use Rattle.plans.specs.Inner.Drawn.{outcomeOf}
-use Rattle.plans.specs.Inner.Table.{unlessLater}
+use Rattle.plans.specs.Inner.Drawn.{outcomeOf, tested}
+use Rattle.plans.specs.Inner.Table.{unlessLater, tablePlan}
 
 -- an outcome is not a refusal and an acceptance at once
 pub not-both : {o : Outcome} {r : Refusal} → o ≡ Refused r → o ≡ Accepted → ⊥
@@ -62,16 +62,6 @@ module _ {A : Type 0} (refuse : Refusal → A) (go : TaskTable → A) (t : TaskT
       by false true e = absurd (not-both refl e)
       by false false e = refl
 
--- 10 and 11 are numbers above 0, so that an answer with 0 is no refusal
-pub refused-some : (t : TaskTable) {r : Refusal} → outcomeOf t ≡ Refused r → r .number ≡ 0 → ⊥
-unfolding onTable
-refused-some t {r} = by (loops (t .parents) (t .count)) (ltb (t .period) (path t))
-  where
-    by : (b c : Bool) → pick b (Refused (refusal loop 0)) (pick c (Refused (refusal longPath 0)) Accepted) ≡ Refused r → r .number ≡ 0 → ⊥
-    by true c e z = let same : r ≡ refusal loop 0 = cc in let n = ap (λ (x : Refusal). x .number) same in omega arith
-    by false true e z = let same : r ≡ refusal longPath 0 = cc in let n = ap (λ (x : Refusal). x .number) same in omega arith
-    by false false e z = absurd (not-both e refl)
-
 -- a record, by the outcome of its reading
 module _ {A : Type 0} (refuse : Refusal → A) (go : TaskTable → A) (bytes : List ℕ) where
   pub task-refused : {r : Refusal} → readingOf bytes .outcome ≡ Refused r → onTask refuse go bytes ≡ refuse r
@@ -99,3 +89,34 @@ module _ (later : Answer) (words : List ℕ) (t : TaskTable) where
 
   pub later-accepts : later .refusal ≡ 0 → unlessLater later words t ≡ planned words t
   later-accepts e = rw (eq-eqb (later .refusal) 0 e)
+
+-- ---- the tests after the run
+module _ (t : TaskTable) (later : Answer) where
+  -- fewer nodes done than there are tell the loop, and without one the path told is the table's
+  pub tested-so : (done P : ℕ) → loops (t .parents) (t .count) ≡ ltb done (t .count) → (loops (t .parents) (t .count) ≡ false → P ≡ path t)
+      → tested (ltb done (t .count)) (ltb (t .period) P) later ≡ tested (loops (t .parents) (t .count)) (ltb (t .period) (path t)) later
+  tested-so done P told path-is = ap (λ (b : Bool). tested b (ltb (t .period) P) later) (sym told) ∙ by (loops (t .parents) (t .count)) refl
+    where
+      by : (b : Bool) → loops (t .parents) (t .count) ≡ b → tested b (ltb (t .period) P) later ≡ tested b (ltb (t .period) (path t)) later
+      by true e = refl
+      by false e = rw (path-is e)
+
+  module _ {a : Answer} (is : a ≡ tested (loops (t .parents) (t .count)) (ltb (t .period) (path t)) later) where
+    -- a refusal goes out, and the words stay as they were
+    pub tested-out : (words : List ℕ) → (a .refusal ≡ 0 → ⊥) → record { answer = a; lent = words } ≡ tablePlan later words t
+    unfolding onTable
+    tested-out words n = by (loops (t .parents) (t .count)) (ltb (t .period) (path t)) is
+      where
+        by : (b c : Bool) → a ≡ tested b c later → record { answer = a; lent = words } ≡ pick b (unplanned words (refusal loop 0)) (pick c (unplanned words (refusal longPath 0)) (unlessLater later words t))
+        by true c e = rw e
+        by false true e = rw e
+        by false false e = rw e (sym (later-refuses later words t (λ z. n (ap (λ (x : Answer). x .refusal) e ∙ z))))
+
+    -- no refusal: there is no loop, the path fits, and the later rules refuse nothing
+    pub tested-in : a .refusal ≡ 0 → (loops (t .parents) (t .count) ≡ false) × (path t ≤ t .period) × (later .refusal ≡ 0)
+    tested-in z = by (loops (t .parents) (t .count)) (ltb (t .period) (path t)) refl refl is
+      where
+        by : (b c : Bool) → loops (t .parents) (t .count) ≡ b → ltb (t .period) (path t) ≡ c → a ≡ tested b c later → (loops (t .parents) (t .count) ≡ false) × (path t ≤ t .period) × (later .refusal ≡ 0)
+        by true c l h e = let n = ap (λ (x : Answer). x .refusal) e in absurd (omega arith)
+        by false true l h e = let n = ap (λ (x : Answer). x .refusal) e in absurd (omega arith)
+        by false false l h e = (l, ltb-false (t .period) (path t) h, sym (ap (λ (x : Answer). x .refusal) e) ∙ z)

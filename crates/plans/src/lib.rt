@@ -2,96 +2,54 @@
 use refusals::Answer;
 use refusals::Outcome;
 use refusals::Refusal;
+use sweeps::Swept;
 use tables::TaskTable;
 ghost use mathlib.Core.Path.{_≡_};
 ghost use mathlib.Core.List.{_++_};
 ghost use Prim.Native.Nat.{_+_, _*_, _≤_};
-ghost use lib.ListN.{length, drop, replicate};
+ghost use lib.Dec.{ltb};
+ghost use lib.ListN.{length, drop};
 ghost use Rattle.tables.specs.Inner.Plannable.{Plannable};
 ghost use Rattle.plans.specs.Diagram.{segmentCount};
 ghost use Rattle.plans.specs.Words.{wordCount, wordsMax, frontWords, written};
 ghost use Rattle.plans.specs.Calls.{planCall};
-ghost use Rattle.plans.specs.Inner.Drawn.{outcomeOf, Lined, Drawn, Fronted, Totalled};
+ghost use Rattle.plans.specs.Inner.Drawn.{tested, SegmentsOf, NodesOf, Totalled};
 ghost use Rattle.plans.specs.Inner.Table.{tablePlan};
 
 // The limit of specs/: the most words that a plan has.
 pub const WORDS_MAX: usize = 387;
 
-// A table and what is said of its timing diagram beside the arrays: the refusal that stands in its way, or its work and its path.
-pub struct Drawing {
-    pub outcome: Outcome,
-    pub table: TaskTable,
-    pub work: u64,
-    pub path: u64,
-}
-
-// No diagram, for this refusal.
-fn no_drawing(table: TaskTable, refusal: Refusal) -> Drawing
-    ensures { λ r. ⌜ r .outcome ≡ Outcome.Refused refusal ⌝ }
+// The answer of the rules after the reader's: 10 where nodes were left when the diagram was run, 11 where its path is longer than the period,
+// else what the later rules say.
+fn tested(swept: Swept, n: usize, period: u64, later: Answer) -> Answer
+    ensures { λ r. ⌜ r ≡ tested (ltb (swept .done) n) (ltb period (swept .cut .time)) later ⌝ }
 {
-    Drawing {
-        outcome: Outcome::Refused(refusal),
-        table,
-        work: 0,
-        path: 0,
+    if swept.done < n {
+        return Answer::refused(Refusal::of(Refusal::LOOP, 0));
     }
-}
-
-// The timing diagram of a table, into arrays of zeros: starts, finishes, and the nodes in the order in which they start and finish.
-// 10 where some node is reached from itself, 11 where the path is longer than the period.
-fn draw(
-    starts: &mut [u64; 64],
-    finishes: &mut [u64; 64],
-    starting: &mut [usize; 64],
-    finishing: &mut [usize; 64],
-    table: TaskTable,
-) -> Drawing
-    requires { ⌜ Plannable table × (now starts ≡ replicate 64 0) × (now finishes ≡ replicate 64 0) × (length (now starting) ≡ 64) ⌝ }
-    ensures { λ r. ⌜ (r .outcome ≡ outcomeOf table) × (r .outcome ≡ Outcome.Accepted → (r .table ≡ table) × Drawn r (now (starts .exit)) (now (finishes .exit)) (now (starting .exit)) (now (finishing .exit))) ⌝ }
-{
-    let n = table.count;
-    let parents = table.parents;
-    let execution = table.execution;
-    let count = ways::order_of(starting, &parents, n);
-    if count < n {
-        return no_drawing(table, Refusal::of(Refusal::LOOP, 0));
+    if period < swept.cut.time {
+        return Answer::refused(Refusal::of(Refusal::LONG_PATH, 0));
     }
-    ways::times_of(starts, finishes, &parents, &execution, starting, n);
-    let path = ways::path_of(finishes, n);
-    if table.period < path {
-        return no_drawing(table, Refusal::of(Refusal::LONG_PATH, 0));
-    }
-    let list = *starting;
-    *finishing = list;
-    lineups::line_up(starting, starts, n);
-    lineups::line_up(finishing, finishes, n);
-    let work = ways::work_of(&execution, n);
-    Drawing {
-        outcome: Outcome::Accepted,
-        table,
-        work,
-        path,
-    }
+    later
 }
 
 // The head and the segments' triples.
 fn write_segments<'a>(
     words: &mut [u64],
-    starts: &'a [u64; 64],
+    threads: &'a [u8; 64],
+    enders: &'a [u8; 64],
     finishes: &'a [u64; 64],
-    starting: &'a [usize; 64],
-    finishing: &'a [usize; 64],
-    drawing: Drawing,
+    swept: Swept,
+    n: usize,
+    period: u64,
+    work: u64,
 )
-    requires { ⌜ Drawn drawing (now starts) (now finishes) (now starting) (now finishing) × (wordsMax ≤ length (now words)) ⌝ }
-    ensures { λ _. ⌜ now (words .exit) ≡ frontWords (drawing .table) ++ drop (3 + 3 * segmentCount (drawing .table)) (now (words .entry)) ⌝ }
+    requires { ⌜ ((t : TaskTable) × SegmentsOf t n period work (swept .cut .number) (swept .cut .time) (now threads) (now enders) (now finishes)) × (wordsMax ≤ length (now words)) ⌝ }
+    ensures { λ _. ⌜ ((t : TaskTable) → SegmentsOf t n period work (swept .cut .number) (swept .cut .time) (now (threads .entry)) (now (enders .entry)) (now (finishes .entry)) → now (words .exit) ≡ frontWords t ++ drop (3 + 3 * segmentCount t) (now (words .entry))) ⌝ }
 {
-    let table = drawing.table;
-    let n = table.count;
-    let period = table.period;
-    let work = drawing.work;
-    let path = drawing.path;
-    let s = segments::cut_words(words, starts, finishes, starting, finishing, n);
+    let s = swept.cut.number;
+    let path = swept.cut.time;
+    segments::cut_words(words, threads, enders, finishes, s);
     let deal = shares::deal_of(words, s, period, work, path);
     shares::fill_numerators(words, s, deal, period, work, path);
     words[0] = deal.over;
@@ -102,42 +60,20 @@ fn write_segments<'a>(
 // The nodes' triples, in the part after the last segment; the number of words of the whole plan.
 fn write_nodes<'a>(
     words: &mut [u64],
-    starts: &'a [u64; 64],
-    finishes: &'a [u64; 64],
-    starting: &'a [usize; 64],
-    finishing: &'a [usize; 64],
-    table: TaskTable,
+    first: &'a [u8; 64],
+    last: &'a [u8; 64],
+    execution: &'a [u64; 64],
+    n: usize,
 ) -> usize
-    requires { ⌜ Lined table (now starts) (now finishes) (now starting) (now finishing) × Fronted table (now words) ⌝ }
-    ensures { λ r. ⌜ r ≡ wordCount (segmentCount table) (table .count) ⌝ }
-    ensures { λ r. ⌜ now (words .exit) ≡ written table (now (words .entry)) ⌝ }
+    requires { ⌜ ((t : TaskTable) × NodesOf t n (now first) (now last) (now execution) (now words)) ⌝ }
+    ensures { λ r. ⌜ ((t : TaskTable) → NodesOf t n (now (first .entry)) (now (last .entry)) (now (execution .entry)) (now (words .entry)) → (r ≡ wordCount (segmentCount t) (t .count)) × (now (words .exit) ≡ written t (now (words .entry)))) ⌝ }
 {
-    let n = table.count;
     let over = words[0];
     let s = words[1] as usize;
-    let offsets = shares::stretched(words, s, starts, starting, n);
-    let ends = shares::stretched(words, s, finishes, finishing, n);
-    let execution = table.execution;
+    let sums = shares::sums_of(words, s);
     let from = 3 + 3 * s;
-    shares::fill_nodes(&mut words[from..], &offsets, &ends, &execution, n, over);
+    shares::fill_nodes(&mut words[from..], &sums, first, last, execution, n, over);
     from + 3 * n
-}
-
-// The plan of a table, from its timing diagram; the number of words.
-fn write_plan<'a>(
-    words: &mut [u64],
-    starts: &'a [u64; 64],
-    finishes: &'a [u64; 64],
-    starting: &'a [usize; 64],
-    finishing: &'a [usize; 64],
-    drawing: Drawing,
-) -> usize
-    requires { ⌜ Drawn drawing (now starts) (now finishes) (now starting) (now finishing) × (wordsMax ≤ length (now words)) ⌝ }
-    ensures { λ r. ⌜ (r ≡ wordCount (segmentCount (drawing .table)) (drawing .table .count)) × (now (words .exit) ≡ written (drawing .table) (now (words .entry))) ⌝ }
-{
-    write_segments(words, starts, finishes, starting, finishing, drawing);
-    let table = drawing.table;
-    write_nodes(words, starts, finishes, starting, finishing, table)
 }
 
 // What planning a table comes to: the answer, and where that is no refusal, the table's work and path.
@@ -154,29 +90,37 @@ pub fn plan_table(words: &mut [u64], table: TaskTable, later: Answer) -> Plannin
     ensures { λ r. ⌜ record { answer = r .answer; lent = now (words .exit) } ≡ tablePlan later (now (words .entry)) table ⌝ }
     ensures { λ r. ⌜ (r .answer .refusal ≡ 0 → Totalled table r) ⌝ }
 {
-    let mut starts = [0u64; 64];
+    let n = table.count;
+    let period = table.period;
+    let parents = table.parents;
+    let execution = table.execution;
+    let mut threads = [0u8; 64];
+    let mut enders = [0u8; 64];
     let mut finishes = [0u64; 64];
-    let mut starting = [0usize; 64];
-    let mut finishing = [0usize; 64];
-    let drawing = draw(
-        &mut starts,
+    let mut first = [0u8; 64];
+    let mut last = [0u8; 64];
+    let swept = sweeps::sweep(
+        &mut threads,
+        &mut enders,
         &mut finishes,
-        &mut starting,
-        &mut finishing,
-        table,
+        &mut first,
+        &mut last,
+        &parents,
+        &execution,
+        n,
     );
-    let outcome = drawing.outcome;
-    let work = drawing.work;
-    let path = drawing.path;
-    let Outcome::Accepted = outcome else {
-        let answer = refusals::answer_of(outcome);
-        return Planning { answer, work, path };
-    };
-    if later.refusal != 0 {
-        let answer = later;
-        return Planning { answer, work, path };
+    let path = swept.cut.time;
+    let answer = tested(swept, n, period, later);
+    if answer.refusal != 0 {
+        return Planning {
+            answer,
+            work: 0,
+            path,
+        };
     }
-    let count = write_plan(words, &starts, &finishes, &starting, &finishing, drawing);
+    let work = ways::work_of(&execution, n);
+    write_segments(words, &threads, &enders, &finishes, swept, n, period, work);
+    let count = write_nodes(words, &first, &last, &execution, n);
     let answer = Answer::accepted(count as u64);
     Planning { answer, work, path }
 }

@@ -11,7 +11,7 @@ use Rattle.plain.specs.Sums.{sumTo}
 use Rattle.plain.proofs.Lists.{lt-or-ge}
 use Rattle.plain.proofs.Flags.{upTo-is}
 use Rattle.plain.proofs.Sums.{sum-less, sum-ones, le-maxTo, maxTo-is}
-use Rattle.segments.specs.Cut.{latest, next, nextTo, cut}
+use Rattle.segments.specs.Cut.{latest, next, cut}
 use Rattle.segments.proofs.Next.{next-le, next-gt, next-least, next-is, next-end}
 
 -- 0 or a finish
@@ -23,11 +23,6 @@ module _ (n : ℕ) (F : ℕ → ℕ) where
   pub cut-none : cut n F 0 ≡ 0
   unfolding cut
   cut-none = refl
-
-  -- the next one, by the latest finish
-  pub cut-more : (j : ℕ) → cut n F (suc j) ≡ nextTo n F (latest n F) (cut n F j)
-  unfolding cut next
-  cut-more j = refl
 
   -- no finish lies past the path, and no cut does
   pub finish-le : (v : ℕ) → v < n → F v ≤ latest n F

@@ -7,5 +7,3 @@ pub mod Diagram
 pub mod Cutting
 pub mod Shares
 pub mod Words
-pub mod Along
-pub mod Walk

@@ -1,9 +1,8 @@
 -- Sets by a rule that says 0 or 1: a set is known by its digits, and its digits are what the rule says.
-use mathlib.Core.Path.{_≡_, refl, sym, ap₂, _∙_}
+use mathlib.Core.Path.{_≡_, sym, _∙_}
 use mathlib.Core.Logic.{⊎-elim}
-use Prim.Native.Nat.{ℕ, zero, suc, _+_, _*_, _^_, _≤_, _<_}
-use native.Mathlib.Nat.{le-refl, lt-of-lt-of-le}
-use native.Mathlib.Omega.{arith}
+use Prim.Native.Nat.{ℕ, _^_, _≤_, _<_}
+use native.Mathlib.Nat.{lt-of-lt-of-le}
 use lib.Pow.{pow-mono}
 use Rattle.plain.specs.Sums.{sumTo}
 use Rattle.plain.proofs.Lists.{lt-or-ge}
@@ -12,12 +11,6 @@ use Rattle.sets.specs.Rule.{setOf}
 use Rattle.sets.proofs.Bits.{same-bits}
 use Rattle.sets.proofs.Sizes.{ones-size}
 use Rattle.sets.proofs.Rule.{bit-past, bit-set, set-lt, ones-set, Collected}
-
--- rules that agree below n make one set
-pub set-same : (n : ℕ) (f g : ℕ → ℕ) → ((v : ℕ) → v < n → f v ≡ g v) → setOf n f ≡ setOf n g
-unfolding setOf
-set-same zero f g e = refl
-set-same (suc n) f g e = ap₂ (λ (x y : ℕ). x + y * 2 ^ n) (set-same n f g (λ v h. e v (omega arith))) (e n (le-refl (suc n)))
 
 module _ (f : ℕ → ℕ) (flag : (v : ℕ) → f v ≤ 1) (n : ℕ) where
   -- a word that a loop has collected by the rule is its set

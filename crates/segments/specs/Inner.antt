@@ -1,5 +1,4 @@
-pub mod Along
 pub mod Diagram
-pub mod Room
+pub mod Ended
 pub mod Words
 pub mod By

@@ -1,15 +1,13 @@
 -- The greatest over a set: it is at least each member's value and at most any common bound, and these two fix it.
-use mathlib.Core.Path.{_≡_, refl, sym, _∙_}
+use mathlib.Core.Path.{_≡_, refl}
 use mathlib.Core.Logic.{_⊎_, inl, inr, ⊎-elim}
-use Prim.Native.Nat.{ℕ, zero, suc, _-_, _^_, _≤_, _<_, zero-le, max}
+use Prim.Native.Nat.{ℕ, zero, suc, _≤_, _<_, zero-le, max}
 use native.Mathlib.Nat.{le-of-suc-le-suc, not-suc-le-zero, le-antisymm, le-trans, max-le, le-max-left, le-max-right, eq-or-lt-of-le, le-refl, max-zero}
 use native.Mathlib.Omega.{arith}
-use native.Mathlib.Decide.{ℕ-discrete}
-use lib.Arith.{le-zero}
 use Rattle.plain.proofs.Lists.{lt-or-ge}
 use Rattle.sets.specs.Member.{bit, Member}
 use Rattle.sets.specs.Greatest.{kept, greatest}
-use Rattle.sets.proofs.Bits.{bit-le, bit-zero, bit-out-same, bit-out-other, mem-lt, mem-or}
+use Rattle.sets.proofs.Bits.{bit-le, mem-or}
 
 kept-le : (b x y : ℕ) → (b ≡ 1 → x ≤ y) → b ≤ 1 → kept b x ≤ y
 kept-le zero x y h l = zero-le
@@ -35,47 +33,12 @@ le-greatest (suc d) s f k l m = ⊎-elim here (λ (lt : k < d). there (le-greate
     there : f k ≤ greatest d s f → f k ≤ max (greatest d s f) (kept (bit d s) (f d))
     there ih = le-trans ih (le-max-left (greatest d s f) (kept (bit d s) (f d)))
 
--- the walk's step
-pub greatest-out : (d s : ℕ) (f : ℕ → ℕ) (p : ℕ) → p < d → Member p s → greatest d s f ≡ max (f p) (greatest d (s - 2 ^ p) f)
-greatest-out d s f p l m =
-    le-antisymm
-    (greatest-le d s f (max (f p) (greatest d (s - 2 ^ p) f)) up)
-    (max-le (le-greatest d s f p l m) (greatest-le d (s - 2 ^ p) f (greatest d s f) down))
-  where
-    up : (k : ℕ) → k < d → Member k s → f k ≤ max (f p) (greatest d (s - 2 ^ p) f)
-    up k lk mk = elim (ℕ-discrete k p) [
-      | yes e ↦ rw e (le-max-left (f p) (greatest d (s - 2 ^ p) f))
-      | no n ↦ le-trans (le-greatest d (s - 2 ^ p) f k lk (bit-out-other p k s n m ∙ mk)) (le-max-right (f p) (greatest d (s - 2 ^ p) f))
-    ]
-
-    down : (k : ℕ) → k < d → Member k (s - 2 ^ p) → f k ≤ greatest d s f
-    down k lk mk = elim (ℕ-discrete k p) [
-      | yes e ↦ absurd (clash (rw e at mk) (bit-out-same p s m))
-      | no n ↦ le-greatest d s f k lk (sym (bit-out-other p k s n m) ∙ mk)
-    ]
-      where
-        clash : {x : ℕ} → x ≡ 1 → x ≡ 0 → ⊥
-        clash a b = omega arith
-
-pub greatest-none : (d : ℕ) (f : ℕ → ℕ) → greatest d 0 f ≡ 0
-greatest-none d f = le-zero (greatest-le d 0 f 0 (λ k l m. absurd (clash m (bit-zero k))))
-  where
-    clash : {x : ℕ} → x ≡ 1 → x ≡ 0 → ⊥
-    clash a b = omega arith
-
 -- two rules that agree at the members have one greatest
 pub greatest-same : (d s : ℕ) (f g : ℕ → ℕ) → ((k : ℕ) → k < d → Member k s → f k ≡ g k) → greatest d s f ≡ greatest d s g
 greatest-same d s f g h =
     le-antisymm
     (greatest-le d s f (greatest d s g) (λ k l m. rw (h k l m) (le-greatest d s g k l m)))
     (greatest-le d s g (greatest d s f) (λ k l m. rw (← (h k l m)) (le-greatest d s f k l m)))
-
--- a word of n digits has no member past n
-pub greatest-cut : (d n s : ℕ) (f : ℕ → ℕ) → n ≤ d → s < 2 ^ n → greatest d s f ≡ greatest n s f
-greatest-cut d n s f l h =
-    le-antisymm
-    (greatest-le d s f (greatest n s f) (λ k lk m. le-greatest n s f k (mem-lt n k s h m) m))
-    (greatest-le n s f (greatest d s f) (λ k lk m. le-greatest d s f k (omega arith) m))
 
 -- the greatest is 0 or one of the values
 pub greatest-is : (d s : ℕ) (f : ℕ → ℕ) → (greatest d s f ≡ 0) ⊎ ((k : ℕ) × (k < d) × Member k s × (greatest d s f ≡ f k))

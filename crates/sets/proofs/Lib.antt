@@ -3,3 +3,5 @@ pub mod Sizes
 pub mod Greatest
 pub mod Walks
 pub mod Rule
+pub mod Words
+mod Runs

@@ -2,16 +2,14 @@
 use mathlib.Core.Path.{_≡_, refl, sym, ap, _∙_}
 use mathlib.Core.Logic.{⊎-elim}
 use mathlib.Core.List.{[], _∷_, _++_, List·Memᴰ, List·Memᴰ·head, List·Memᴰ·not-nil, List·Memᴰ·append-cases, List·Memᴰ·eq-of-singleton, Memᴰ·append-left, Memᴰ·append-right}
-use Prim.Native.Nat.{ℕ, zero, suc, _-_, _*_, _/_, _%_, _^_, _<_, zero-le, suc-le-suc, max}
+use Prim.Native.Nat.{ℕ, zero, suc, _-_, _*_, _/_, _%_, _^_, _<_, zero-le, suc-le-suc}
 use native.Mathlib.Nat.{pow-suc, le-of-suc-le-suc, not-suc-le-zero, eq-or-lt-of-le, le-refl}
 use native.Mathlib.Omega.{arith}
 use lib.Bits.{bitAnd, and-le-r}
 use lib.Count.{trailingZeros, under}
 use Rattle.sets.specs.Member.{bit, Member}
 use Rattle.sets.specs.Inner.Members.{only, members}
-use Rattle.sets.specs.Greatest.{greatest}
 use Rattle.sets.proofs.Bits.{bit-le, bit-out-same, bit-out-other, not-mem, low-clear}
-use Rattle.sets.proofs.Greatest.{greatest-out}
 
 -- the lowest member
 pub lowest-mem : (d s : ℕ) → 0 < s → s < 2 ^ d → Member (trailingZeros d s) s
@@ -73,9 +71,6 @@ walk s n h =
       out = low-clear (trailingZeros 64 s) s m (lowest-none 64 s);
       less = omega (arith, and-le-r s (s - 1));
     }
-
-pub walk-greatest : {s p r : ℕ} (f : ℕ → ℕ) → Walk s p r → greatest 64 s f ≡ max (f p) (greatest 64 r f)
-walk-greatest {s} {p} f w = rw (w .out) (greatest-out 64 s f p (w .lt) (w .mem))
 
 -- the walk by trailing zeros goes through the members in their order
 members-none : (d s : ℕ) → ((k : ℕ) → k < d → bit k s ≡ 0) → members d s ≡ []

@@ -1,11 +1,11 @@
 // A set of nodes in one 64-bit word.
 ghost use mathlib.Core.Path.{_≡_};
-ghost use Prim.Native.Nat.{_<_};
-ghost use Rattle.plain.specs.At.{at};
+ghost use Prim.Native.Nat.{_≤_, _<_};
 ghost use Rattle.sets.specs.Member.{isMember};
 ghost use Rattle.sets.specs.Inner.Put.{withMember};
 ghost use Rattle.sets.specs.Size.{size};
-ghost use Rattle.sets.specs.Greatest.{greatest};
+ghost use Rattle.sets.specs.Rule.{setOf};
+ghost use Rattle.sets.specs.Inner.Last.{Last};
 
 // Whether k is in s.
 pub fn is_member(s: u64, k: usize) -> bool
@@ -30,19 +30,29 @@ pub fn size_of(s: u64) -> u64
     u64::count_ones(s) as u64
 }
 
-// The greatest of the values at the members of s, 0 where s is empty. The members are walked by trailing zeros.
-pub fn greatest_of(s: u64, values: &[u64; 64]) -> u64
-    ensures { λ r. ⌜ r ≡ greatest 64 s (at (now (values .entry))) ⌝ }
+// All numbers below n.
+pub fn all_below(n: usize) -> u64
+    requires { ⌜ n ≤ 64 ⌝ }
+    ensures { λ r. ⌜ r ≡ setOf n (λ k. 1) ⌝ }
+{
+    if n < 64 { (1u64 << n) - 1 } else { u64::MAX }
+}
+
+// The last member of a set that has one. The members are walked by trailing zeros, a run of neighbours at a step: once the zeros below a run
+// are filled, adding 1 leaves as many zeros as there are numbers up to the run's end.
+pub fn last_of(s: u64) -> usize
+    requires { ⌜ (s ≡ 0 → ⊥) ⌝ }
+    ensures { λ r. ⌜ Last r s ⌝ }
 {
     let mut left = s;
-    let mut best: u64 = 0;
+    let mut past: usize = 0;
     while left != 0 {
-        let p = u64::trailing_zeros(left) as usize;
-        let value = values[p];
-        if best < value {
-            best = value;
+        let filled = left | (left - 1);
+        if filled == u64::MAX {
+            return 63;
         }
-        left = left & (left - 1);
+        past = u64::trailing_zeros(filled + 1) as usize;
+        left = left & (filled + 1);
     }
-    best
+    past - 1
 }

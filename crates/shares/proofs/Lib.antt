@@ -4,8 +4,7 @@ pub mod Heavies
 pub mod Deals
 pub mod Fair
 pub mod Densities
-pub mod Edges
-pub mod Walks
+pub mod Holding
 pub mod Triples
 pub mod Numbering
 pub mod Bounds

@@ -13,7 +13,7 @@ use Rattle.shares.specs.declared.Deal.{Deal}
 use Rattle.shares.specs.Deal.{numerator}
 use Rattle.shares.specs.Inner.Words.{threadsAt, lengthAt, numeratorAt}
 use Rattle.shares.specs.Inner.Written.{Numbered}
-use Rattle.shares.proofs.Edges.{HoldsSegments}
+use Rattle.shares.proofs.Holding.{HoldsSegments}
 
 module _ {d : Deal} {T C P s : ℕ} {w₀ w : List ℕ} (is : Numbered d T C P s w₀ w) where
   -- the other words of the plan are as they were

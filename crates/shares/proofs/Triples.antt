@@ -11,7 +11,7 @@ use lib.Seq.{drop-cons, set-at, append-snoc, getD-append-add}
 use Rattle.plain.specs.At.{at}
 use Rattle.shares.specs.Inner.Words.{threadsAt, lengthAt, numeratorAt}
 use Rattle.shares.specs.Triples.{triples}
-use Rattle.shares.proofs.Edges.{HoldsSegments}
+use Rattle.shares.proofs.Holding.{HoldsSegments}
 
 -- how long they are
 pub length-triples : (f g h : ℕ → ℕ) (n : ℕ) → length (triples f g h n) ≡ 3 * n

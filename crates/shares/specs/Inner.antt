@@ -1,6 +1,6 @@
 pub mod Asked
 pub mod Segmented
-pub mod Walks
+pub mod Spans
 pub mod Words
 pub mod Written
 pub mod Kinds

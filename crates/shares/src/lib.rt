@@ -4,17 +4,17 @@ ghost use mathlib.Core.List.{_++_};
 ghost use Prim.Native.Nat.{ℕ, _+_, _*_, _-_, _≤_, _<_};
 ghost use lib.ListN.{length, drop};
 ghost use Rattle.plain.specs.At.{at};
+ghost use Rattle.plain.specs.Sums.{sumTo};
 ghost use Rattle.tables.specs.Limits.{countMax, densityMax};
-ghost use Rattle.lineups.specs.Inner.LinedUp.{LinedUp};
 ghost use Rattle.shares.specs.Heavy.{isHeavy};
 ghost use Rattle.shares.specs.Inner.Kinds.{kinds};
 ghost use Rattle.shares.specs.Deal.{deal, numerator};
 ghost use Rattle.shares.specs.Density.{millionths};
 ghost use Rattle.shares.specs.Figures.{figures};
-ghost use Rattle.shares.specs.Inner.Words.{threadsAt, lengthAt, stretchedIn};
+ghost use Rattle.shares.specs.Inner.Words.{threadsAt, lengthAt, numeratorAt};
 ghost use Rattle.shares.specs.Triples.{triples};
+ghost use Rattle.shares.specs.Inner.Spans.{offsetBy, spanBy};
 ghost use Rattle.shares.specs.Inner.Written.{Numbered};
-ghost use Rattle.shares.specs.Inner.Walks.{Along, Walked};
 ghost use Rattle.shares.specs.Inner.Asked.{DensityIn, HeavyIn, NumeratorIn, DealIn, FillIn, SumsIn, NodesIn};
 
 // How the period is dealt out: Q, what a heavy segment gets per unit of work, what a light one gets per unit of length.
@@ -29,13 +29,6 @@ pub struct Kinds {
     pub heavies: usize,
     pub work: u64,
     pub length: u64,
-}
-
-// Where a walk along the segments stands: how many lie behind it, where the last of these ends, and the sum of their numerators.
-pub struct Mark {
-    pub next: usize,
-    pub edge: u64,
-    pub sum: u64,
 }
 
 // A node's density in millionths, rounded up; 0 for a node that gets nothing.
@@ -137,70 +130,44 @@ pub fn fill_numerators(words: &mut [u64], s: usize, d: Deal, period: u64, work: 
     }
 }
 
-// The walk taken on past every segment that ends by t. The lengths are summed to recover the cuts.
-fn walked_to(words: &[u64], s: usize, from: Mark, t: u64) -> Mark
-    requires { ⌜ SumsIn (now words) s × Along (now words) s t from ⌝ }
-    ensures { λ r. ⌜ Walked (now (words .entry)) s t r ⌝ }
+// D at each cut: entry j is what the first j segments are given, summed.
+pub fn sums_of(words: &[u64], s: usize) -> [u64; 65]
+    requires { ⌜ SumsIn (now words) s ⌝ }
+    ensures { λ r. ⌜ ((j : ℕ) → j ≤ s → at r j ≡ sumTo j (numeratorAt (now (words .entry)))) ⌝ }
 {
-    let mut next = from.next;
-    let mut edge = from.edge;
-    let mut sum = from.sum;
-    while next < s {
-        let end = edge + words[4 + 3 * next];
-        if t < end {
-            return Mark { next, edge, sum };
-        }
-        sum += words[5 + 3 * next];
-        edge = end;
-        next += 1;
+    let mut sums = [0u64; 65];
+    let mut sum: u64 = 0;
+    let mut j: usize = 0;
+    while j < s {
+        sum += words[5 + 3 * j];
+        j += 1;
+        sums[j] = sum;
     }
-    Mark { next, edge, sum }
+    sums
 }
 
-// D of each node's time: the numerators of the segments that end by it. The lineup has the times ascending, so one walk serves all.
-pub fn stretched<'a>(
-    words: &[u64],
-    s: usize,
-    times: &'a [u64; 64],
-    lineup: &'a [usize; 64],
-    n: usize,
-) -> [u64; 64]
-    requires { ⌜ SumsIn (now words) s × (n ≤ countMax) × LinedUp n (at (now times)) (now lineup) ⌝ }
-    ensures { λ r. ⌜ ((v : ℕ) → v < n → at r v ≡ stretchedIn (now (words .entry)) s (at (now (times .entry)) v)) ⌝ }
-{
-    let mut result = [0u64; 64];
-    let mut mark = Mark {
-        next: 0,
-        edge: 0,
-        sum: 0,
-    };
-    let mut i: usize = 0;
-    while i < n {
-        let v = lineup[i];
-        mark = walked_to(words, s, mark, times[v]);
-        result[v] = mark.sum;
-        i += 1;
-    }
-    result
-}
-
-// The node part of a plan: the words from the first past the segments on. A node runs, in stretched time, from its offset to its end.
+// The node part of a plan: the words from the first past the segments on.
+// A node runs, in stretched time, from D at its first cut to D at its last.
 pub fn fill_nodes<'a>(
     out: &mut [u64],
-    offsets: &'a [u64; 64],
-    ends: &'a [u64; 64],
+    sums: &[u64; 65],
+    first: &'a [u8; 64],
+    last: &'a [u8; 64],
     executions: &[u64; 64],
     n: usize,
     over: u64,
 )
-    requires { ⌜ NodesIn (now offsets) (now ends) (now executions) n over (length (now out)) ⌝ }
-    ensures { λ _. ⌜ now (out .exit) ≡ triples (at (now (offsets .entry))) (λ v. at (now (ends .entry)) v - at (now (offsets .entry)) v) (λ v. millionths (at (now (executions .entry)) v) over (at (now (ends .entry)) v - at (now (offsets .entry)) v)) n ++ drop (3 * n) (now (out .entry)) ⌝ }
+    requires { ⌜ NodesIn (now sums) (now first) (now last) (now executions) n over (length (now out)) ⌝ }
+    ensures { λ _. ⌜ now (out .exit) ≡ triples (offsetBy (now (sums .entry)) (now (first .entry))) (spanBy (now (sums .entry)) (now (first .entry)) (now (last .entry))) (λ v. millionths (at (now (executions .entry)) v) over (spanBy (now (sums .entry)) (now (first .entry)) (now (last .entry)) v)) n ++ drop (3 * n) (now (out .entry)) ⌝ }
 {
     let mut v: usize = 0;
     while v < n {
         let k = 3 * v;
-        let d = ends[v] - offsets[v];
-        out[k] = offsets[v];
+        let from = first[v] as usize;
+        let to = last[v] as usize;
+        let offset = sums[from];
+        let d = sums[to] - offset;
+        out[k] = offset;
         out[k + 1] = d;
         out[k + 2] = millionths(executions[v], over, d);
         v += 1;

@@ -2,8 +2,5 @@ pub mod Reaches
 pub mod Closure
 pub mod Ways
 pub mod Totals
-pub mod Orders
-mod Words
-mod Settling
-mod Waiting
-mod Pass
+mod Orders
+pub mod Settling

@@ -2,13 +2,11 @@
 -- because their set has n members.
 use mathlib.Core.Path.{_≡_, sym, ap, _∙_}
 use mathlib.Core.Logic.{⊎-elim}
-use mathlib.Core.Bool.{true, false}
 use mathlib.Core.List.{List}
 use Prim.Native.Nat.{ℕ, zero, suc, _^_, _≤_, _<_}
-use native.Mathlib.Nat.{le-antisymm, ne-of-lt}
+use native.Mathlib.Nat.{ne-of-lt}
 use native.Mathlib.Decide.{ℕ-discrete}
 use native.Mathlib.Omega.{arith}
-use borrow.Author.Tests.{lt-ltb, le-ltb}
 use lib.Bits.{bitOr}
 use Rattle.plain.specs.At.{at}
 use Rattle.sets.specs.Member.{bit, Member}
@@ -17,9 +15,7 @@ use Rattle.sets.proofs.Bits.{bit-zero, mem-or, not-mem, put-other}
 use Rattle.sets.proofs.Sizes.{size-none, size-put, size-all}
 use Rattle.ways.specs.Reaches.{Reaches, edge, more}
 use Rattle.ways.specs.Inner.Tidy.{Tidy}
-use Rattle.ways.specs.Closure.{loops}
-use Rattle.ways.specs.Inner.Order.{Ordered, Sorted}
-use Rattle.ways.specs.Inner.Waiting.{Listed}
+use Rattle.ways.specs.Inner.Order.{Listed, Ordered}
 use Rattle.ways.proofs.Reaches.{from-lt}
 
 module _ (P : List ℕ) (n : ℕ) (l : List ℕ) (o : Ordered P n n l) where
@@ -48,7 +44,7 @@ module _ (P : List ℕ) (n : ℕ) (l : List ℕ) (o : Ordered P n n l) where
           ]
 
   -- every node is listed
-  pub whole : (v : ℕ) → v < n → Listed l n v
+  whole : (v : ℕ) → v < n → Listed l n v
   whole v h = let w = entries n (omega arith) in w .1 v (size-all n (w .0) v (w .2) h)
 
 -- what a listed node reaches is listed before it
@@ -65,16 +61,3 @@ order-free P n l ok o v r =
     let i = whole P n l o v (from-lt P n ok r) in
     let j = earlier P n n l o r (i .0) (i .1) (i .2) in
     ne-of-lt (j .1) (o .once (j .0) (i .0) (omega arith) (i .1) (j .2 ∙ sym (i .2)))
-
--- ---- what a caller knows after the test `count < n`
-module _ {P : List ℕ} {n c : ℕ} {l : List ℕ} (s : Sorted P n c l) where
-  -- it held: there is a loop
-  pub short-loops : c < n → loops P n ≡ true
-  short-loops h = s .told ∙ lt-ltb c n h
-
-  -- it did not: there is none, and the order is whole
-  pub whole-loops : n ≤ c → loops P n ≡ false
-  whole-loops h = s .told ∙ le-ltb c n h
-
-  pub whole-order : n ≤ c → Ordered P n n l
-  whole-order h = rw (le-antisymm (s .within) h) at (s .order)

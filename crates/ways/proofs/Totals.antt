@@ -1,25 +1,18 @@
 -- Work and path: the path is the greatest of the ends, and a work of at most 64 nodes is at most 64 times the greatest weight.
-use mathlib.Core.Path.{_≡_}
 use mathlib.Core.Logic.{⊎-elim}
 use mathlib.Core.List.{List}
 use Prim.Native.Nat.{ℕ, _*_, _≤_, _<_}
 use native.Mathlib.Nat.{le-trans, mul-le-mul-right}
 use native.Mathlib.Omega.{arith}
 use Rattle.plain.specs.At.{at}
-use Rattle.plain.specs.Sums.{maxTo}
 use Rattle.plain.proofs.Lists.{lt-or-ge}
-use Rattle.plain.proofs.Sums.{sumTo-le, le-maxTo, max-same}
+use Rattle.plain.proofs.Sums.{sumTo-le, le-maxTo}
 use Rattle.ways.specs.Ways.{ends}
 use Rattle.ways.specs.Totals.{workOf, pathOf}
 use Rattle.ways.proofs.Ways.{ends-past}
 
 -- ---- the path
 module _ (P X : List ℕ) (n : ℕ) where
-  -- the latest of any array that holds the ends
-  pub path-by : (E : ℕ → ℕ) → ((v : ℕ) → E v ≡ at (ends P X n) v) → maxTo n E ≡ pathOf P X n
-  unfolding pathOf
-  path-by E e = max-same n E (at (ends P X n)) (λ k h. e k)
-
   -- no end is later
   pub path-ge : (v : ℕ) → at (ends P X n) v ≤ pathOf P X n
   unfolding pathOf

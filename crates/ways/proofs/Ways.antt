@@ -1,20 +1,19 @@
 -- Longest ways: an end after r rounds no longer changes once r passes the node's rank, because a parent's rank is lower. So without a
 -- loop n rounds obey the document's equation; and whatever obeys it agrees with the rounds, node by node in the order of rank.
 use mathlib.Core.Path.{_≡_, refl, sym, ap, _∙_}
-use mathlib.Core.Logic.{_⊎_, ⊎-elim}
+use mathlib.Core.Logic.{_⊎_}
 use mathlib.Core.List.{List}
-use Prim.Native.Nat.{ℕ, zero, suc, _+_, _*_, _^_, _≤_, _<_}
-use native.Mathlib.Nat.{not-suc-le-zero, suc-mul}
+use Prim.Native.Nat.{ℕ, zero, suc, _+_, _≤_, _<_}
+use native.Mathlib.Nat.{not-suc-le-zero}
 use native.Mathlib.Omega.{arith}
 use Rattle.plain.specs.At.{at}
-use Rattle.plain.proofs.Lists.{lt-or-ge, at-tab, at-tab-past}
+use Rattle.plain.proofs.Lists.{at-tab, at-tab-past}
 use Rattle.sets.specs.Member.{Member}
 use Rattle.sets.specs.Greatest.{greatest}
-use Rattle.sets.proofs.Greatest.{greatest-le, le-greatest, greatest-same, greatest-is}
+use Rattle.sets.proofs.Greatest.{le-greatest, greatest-same, greatest-is}
 use Rattle.ways.specs.Reaches.{Reaches}
 use Rattle.ways.specs.Inner.Tidy.{Tidy}
 use Rattle.ways.specs.Ways.{beginBy, endBy, endsAfter, ends, begins}
-use Rattle.ways.specs.Inner.Weights.{weightMax}
 use Rattle.ways.proofs.Reaches.{parent-lt, child-lt}
 use Rattle.ways.proofs.Closure.{rank, rank-falls, rank-lt}
 
@@ -44,40 +43,12 @@ module _ (P W : List ℕ) (n : ℕ) where
   unfolding begins
   at-begins v h = at-tab n (beginBy P n (at (ends P W n))) v h
 
-  pub begins-past : (v : ℕ) → n ≤ v → at (begins P W n) v ≡ 0
-  unfolding begins
-  begins-past v h = at-tab-past n (beginBy P n (at (ends P W n))) v h
-
   -- ---- a begin is 0 or some parent's end, and at least each parent's end
   pub begin-is : (v : ℕ) → v < n → (at (begins P W n) v ≡ 0) ⊎ ((p : ℕ) × (p < n) × Member p (at P v) × (at (begins P W n) v ≡ at (ends P W n) p))
   begin-is v h = rw (at-begins v h) (greatest-is n (at P v) (at (ends P W n)))
 
   pub parent-ends : Tidy P n → (v p : ℕ) → Member p (at P v) → at (ends P W n) p ≤ at (begins P W n) v
   parent-ends ok v p m = rw (at-begins v (child-lt P n ok v p m)) (le-greatest n (at P v) (at (ends P W n)) p (parent-lt P n ok v p m) m)
-
-  -- ---- r rounds add at most r weights
-  module _ (G : ℕ) (weights : (v : ℕ) → at W v ≤ G) where
-    pub after-le : (r v : ℕ) → at (endsAfter P W n r) v ≤ r * G
-    unfolding endsAfter
-    after-le zero v = omega arith
-    after-le (suc r) v = ⊎-elim
-        (λ (l : v < n).
-        let e = at-after r v l in
-        let g = greatest-le n (at P v) (at (endsAfter P W n r)) (r * G) (λ k h m. after-le r k) in
-        let w = weights v in
-        let s = suc-mul r G in
-        omega arith)
-        (λ (g : n ≤ v). let e = after-past (suc r) v g in omega arith)
-        (lt-or-ge v n)
-
-    -- so n rounds at most n of them
-    pub ends-le : (v : ℕ) → at (ends P W n) v ≤ n * G
-    unfolding ends
-    ends-le v = after-le n v
-
-  -- a begin and any one weight fit a word together
-  pub begin-fit : n ≤ 64 → ((v : ℕ) → at W v ≤ weightMax) → (x v : ℕ) → x + at W v ≡ at (ends P W n) v → (u : ℕ) → x + at W u < 2 ^ 64
-  begin-fit h b x v e u = let w = ends-le weightMax b v in let g = b u in omega arith
 
   -- ---- where there is no loop, the rounds come to rest, and the rest is the one answer of the rule
   module _ (ok : Tidy P n) (free : (v : ℕ) → Reaches P v v → ⊥) where

@@ -1,4 +1,4 @@
 pub mod Order
-pub mod Waiting
+pub mod Settling
 pub mod Weights
 pub mod Tidy

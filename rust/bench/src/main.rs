@@ -1,11 +1,15 @@
 //! Speed and stack depth of the proved library beside the reference.
+//! `bench stack`: the stack alone.
 
 mod clock;
+mod frames;
 mod setup;
 mod speed;
 mod stack;
 
 fn main() {
-    speed::print();
+    if std::env::args().nth(1).as_deref() != Some("stack") {
+        speed::print();
+    }
     stack::print();
 }

@@ -2,6 +2,7 @@
 
 use ffi::task::{chain, dense, fork, Node, Task};
 use reference::Row;
+use std::iter;
 
 /// Starts on a cache line, so that the times don't depend on where it lies.
 #[repr(align(64))]
@@ -11,11 +12,12 @@ pub struct Aligned<T>(pub T);
 /// A shape's name and the parents of its nodes.
 pub type Shape = (&'static str, fn(u64) -> Vec<Vec<u64>>);
 
-pub const SHAPES: [Shape; 4] = [
+pub const SHAPES: [Shape; 5] = [
     ("chain", chain),
     ("backward chain", backward),
     ("fork", fork),
     ("dense", dense),
+    ("loose", loose),
 ];
 
 /// A chain whose last step is node 0: a search for the next step that goes up
@@ -26,19 +28,78 @@ fn backward(count: u64) -> Vec<Vec<u64>> {
         .collect()
 }
 
+/// No node waits for another.
+fn loose(count: u64) -> Vec<Vec<u64>> {
+    vec![vec![]; count as usize]
+}
+
 /// A task of that shape. Executions differ, so that the cuts do, and the
 /// period is roomy enough for every shape.
 pub fn record(shape: Shape, count: u64, id: u64) -> Vec<u8> {
-    let node = |(at, parents): (usize, Vec<u64>)| Node {
-        execution: 100 + at as u64 * 7_919 % 1_000,
-        parents,
-    };
+    let executions = (0..).map(|at| 100 + at * 7_919 % 1_000);
+    task(shape.1(count), executions, id)
+}
+
+fn task(parents: Vec<Vec<u64>>, executions: impl Iterator<Item = u64>, id: u64) -> Vec<u8> {
+    let node = |(parents, execution)| Node { execution, parents };
     let task = Task {
         id,
         period: 100_000,
-        nodes: shape.1(count).into_iter().enumerate().map(node).collect(),
+        nodes: parents.into_iter().zip(executions).map(node).collect(),
     };
     task.record()
+}
+
+/// So many records stand for a case in which no branch can be learnt.
+pub const DIFFERENT: usize = 512;
+
+/// Tasks of 64 nodes of one shape that differ in their executions.
+pub fn different(shape: Shape) -> Vec<Vec<u8>> {
+    let mut chance = Chance(1);
+    let one = |_| task(shape.1(64), chance.executions(), 1);
+    (0..DIFFERENT).map(one).collect()
+}
+
+/// Tasks of 64 nodes that differ in everything: each node waits for up to
+/// three others, whatever their numbers.
+pub fn scattered() -> Vec<Vec<u8>> {
+    let mut chance = Chance(2);
+    let one = |_| task(chance.parents(64), chance.executions(), 1);
+    (0..DIFFERENT).map(one).collect()
+}
+
+/// Numbers without a pattern, the same in every run.
+struct Chance(u64);
+
+impl Chance {
+    fn below(&mut self, limit: u64) -> u64 {
+        self.0 ^= self.0 << 13;
+        self.0 ^= self.0 >> 7;
+        self.0 ^= self.0 << 17;
+        self.0 % limit
+    }
+
+    fn executions(&mut self) -> impl Iterator<Item = u64> + '_ {
+        iter::repeat_with(|| 100 + self.below(1_000))
+    }
+
+    /// Up to three parents for each node, among those before it in an order
+    /// of its own.
+    fn parents(&mut self, count: u64) -> Vec<Vec<u64>> {
+        let mut order: Vec<u64> = (0..count).collect();
+        let mut parents = vec![vec![]; count as usize];
+        for at in 0..count as usize {
+            order.swap(at, at + self.below(count - at as u64) as usize);
+            let wanted = self.below(4).min(at as u64);
+            let mut chosen: Vec<u64> = (0..wanted)
+                .map(|_| order[self.below(at as u64) as usize])
+                .collect();
+            chosen.sort_unstable();
+            chosen.dedup();
+            parents[order[at] as usize] = chosen;
+        }
+        parents
+    }
 }
 
 /// A board with the ids 1 to that number standing in its first rows.

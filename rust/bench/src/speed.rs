@@ -1,7 +1,7 @@
 //! The table of times.
 
 use crate::clock::pair;
-use crate::setup::{board, record, Aligned, SHAPES};
+use crate::setup::{board, different, record, scattered, Aligned, DIFFERENT, SHAPES};
 use ffi::task::Task;
 use reference::{Row, PLAN_WORDS};
 use std::hint::black_box;
@@ -15,6 +15,7 @@ pub fn print() {
     println!("the copy are already taken off");
     println!("{:42}{:>9}{:>11}{:>7}", "", "library", "reference", "ratio");
     plans();
+    different_plans();
     admissions(copy);
     withdrawal(copy);
     asking();
@@ -29,25 +30,44 @@ fn plans() {
     for shape in SHAPES {
         for count in [8, 16, 32, 64] {
             let name = format!("plan {} of {count}", shape.0);
-            line(&name, plan_times(&record(shape, count, 1)));
+            line(&name, plan_times(&[record(shape, count, 1)]));
         }
     }
     let longest = Task::longest().record();
     let name = format!("read {} bytes, then refusal 10", longest.len());
-    line(&name, plan_times(&longest));
+    line(&name, plan_times(&[longest]));
 }
 
-fn plan_times(record: &[u8]) -> (f64, f64) {
+fn different_plans() {
+    for shape in SHAPES {
+        let name = format!("plan {DIFFERENT} different, {} of 64", shape.0);
+        line(&name, plan_times(&different(shape)));
+    }
+    let name = format!("plan {DIFFERENT} different, scattered 64");
+    line(&name, plan_times(&scattered()));
+}
+
+/// The records take turns.
+fn plan_times(records: &[Vec<u8>]) -> (f64, f64) {
     let mut words = [Aligned([0; PLAN_WORDS]); 2];
     let [Aligned(library), Aligned(reference)] = &mut words;
+    let (mut ours, mut theirs) = (turns(records), turns(records));
     pair(
         || {
-            black_box(ffi::plan(black_box(record), black_box(library)));
+            black_box(ffi::plan(black_box(ours()), black_box(library)));
         },
         || {
-            black_box(reference::plan(black_box(record), black_box(reference)));
+            black_box(reference::plan(black_box(theirs()), black_box(reference)));
         },
     )
+}
+
+fn turns<'a>(records: &'a [Vec<u8>]) -> impl FnMut() -> &'a [u8] {
+    let mut at = 0;
+    move || {
+        at = if at + 1 < records.len() { at + 1 } else { 0 };
+        &records[at]
+    }
 }
 
 fn copy_time() -> f64 {

@@ -1,6 +1,7 @@
 //! Stack depth: the stack below a call is painted, and after the call it is
 //! seen how far down the paint is gone.
 
+use crate::frames;
 use crate::setup::{board, record, SHAPES};
 use ffi::task::Task;
 use reference::PLAN_WORDS;
@@ -17,6 +18,12 @@ const WORD: usize = size_of::<u64>();
 /// this much lower, and the measured call runs below twice as much.
 const GAP: usize = 4_096;
 
+/// What the segment step may take, in the service monitor.
+const STEP_BYTES: usize = 2_048;
+
+/// The table's executions and parent sets, which the step is handed by value.
+const TABLE_BYTES: usize = 2 * 64 * WORD;
+
 pub fn print() {
     println!();
     println!("stack in bytes, with the small frame that makes the call; for plan and");
@@ -28,6 +35,20 @@ pub fn print() {
     plan_depths(&records);
     admit_depths(&records);
     board_depths();
+    if cfg!(target_arch = "x86_64") {
+        step_depth();
+    }
+}
+
+/// The segment step is put in line in `plan_table`, with all that writes the
+/// plan after it: what that function takes beside the table bounds the step.
+fn step_depth() {
+    let step = frames::depth("plans::plan_table") - TABLE_BYTES;
+    println!("the segment step, by the frames of the object code: {step}");
+    assert!(
+        step <= STEP_BYTES,
+        "the segment step has {STEP_BYTES} bytes"
+    );
 }
 
 fn line(name: &str, library: usize, reference: usize) {

@@ -5,6 +5,9 @@ pub mod task;
 
 use reference::{Answer, Row};
 
+/// Where the library lies that is linked in.
+pub const LIBRARY: &str = env!("PLANNER_LIBRARY");
+
 extern "C" {
     fn planner_plan(record: *const u8, bytes: usize, words: *mut u64, lent: usize) -> Answer;
     fn planner_admit(

@@ -1,52 +1,121 @@
--- `plans::plan_table` meets its contract: the diagram's outcome is the table's, a later rule's refusal goes out with the words untouched, and else
--- the plan is written.
-use mathlib.Core.Path.{_≡_, refl, sym, ap, _∙_}
+-- `plans::plan_table` meets its contract: the run tells the loop and the path, so the tests are those of the table; a refusal goes out with the
+-- words untouched, and else the run is the table's, and its plan is written.
+use mathlib.Core.Path.{_≡_, refl, sym, _∙_}
+use mathlib.Core.Bool.{false}
+use mathlib.Core.List.{_++_}
+use Prim.Native.Nat.{ℕ, _+_, _*_, _^_, _≤_}
+use native.Mathlib.Omega.{arith}
 use borrow.Author.Needs.{needs}
 use denote.Ref.{now}
-use Rattle.refusals.specs.declared.Answer.{Answer}
-use Rattle.refusals.specs.Answer.{accepted, answerOf}
-use Rattle.plans.specs.Calls.{unplanned}
-use Rattle.plans.specs.Inner.Table.{unlessLater, tablePlan}
-use Rattle.plans.proofs.Tests.{table-refused, table-accepted, refused-some, later-refuses, later-accepts}
+use lib.Dec.{ltb}
+use lib.ListN.{drop}
+use Rattle.tables.specs.declared.TaskTable.{TaskTable}
+use Rattle.tables.specs.Inner.Limits.{runMax}
+use Rattle.ways.specs.Closure.{loops}
+use Rattle.plans.specs.Diagram.{path, segmentCount}
+use Rattle.plans.specs.Words.{frontWords}
+use Rattle.plans.specs.Inner.Planned.{Planned}
+use Rattle.plans.specs.Inner.Drawn.{tested, SegmentsOf, NodesOf}
+use Rattle.plans.proofs.Table.{tidy, path-latest}
+use Rattle.plans.proofs.Drawn.{path-so}
+use Rattle.plans.proofs.Front.{front-back, past-front}
+use Rattle.plans.proofs.Tests.{on-fits, later-accepts, tested-so, tested-out, tested-in}
 use Rattle.plans.proofs.plan_table.Statement.{statement}
 use Rattle.plans.proofs.plan_table.Tie as tie
 
-draw-requires : tie.Need-draw-requires
-draw-requires c κs = (c .before .before .before .before .before .pre .0, refl, refl, refl)
+-- what was handed in
+abbrev handed : tie.After-execution2 → tie.Start
+handed c = c .before .before .before .before .before .before .before .before .before .before
 
-enum-told : tie.Need-enum-told
-enum-told c = search needs
+abbrev table : tie.After-sweep → TaskTable
+table c = handed (c .before) .args .table
 
-enum-told-2 : tie.Need-enum-told-2
-enum-told-2 c = search needs
+-- an execution is small enough for any sum of finishes
+light : {x : ℕ} → x ≤ runMax → x ≤ 2 ^ 57
+light h = omega arith
 
-answer-of-requires : tie.Need-answer-of-requires
-answer-of-requires c κs = search needs
+sweep-requires : tie.Need-sweep-requires
+sweep-requires c κs =
+    let r = handed c .pre .0 in
+    record {
+      fits = r .count-high;
+      tidy = tidy r;
+      light = λ v. light (r .run-high v);
+      counts = refl;
+      enders = refl;
+      ends = refl;
+      firsts = refl;
+      lasts = refl;
+    }
+
+tested-requires : tie.Need-tested-requires
+tested-requires c κs = search needs
+
+-- the run that the tests look at
+abbrev ran : tie.After-tested → tie.After-sweep
+ran c = c .before
+
+-- they are the table's own
+answered : (c : tie.After-tested) → (let t = table (ran c) in c .tested .result ≡ tested (loops (t .parents) (t .count)) (ltb (t .period) (path t)) (handed (ran c .before) .args .later))
+answered c =
+    let s = ran c .sweep .ensures in
+    c .tested .ensures ∙ tested-so (table (ran c)) _ _ _ (s .told) (λ l. s .cut-up l .path-is ∙ sym (path-latest (table (ran c))))
 
 returns : tie.Need-returns
 returns c =
-    let d = c .before .before .before in
-    let a = d .before .before .before .before .before .before .args in
-    let told = c .before .enum-told2 .given .1 in
-    let drawn = sym (d .draw .ensures .0) ∙ told in
-    let answer = c .answer-of .ensures ∙ ap answerOf told in
-    (rw answer (sym (table-refused (unplanned (now (a .words))) (unlessLater (a .later) (now (a .words))) (a .table) drawn)), λ z. absurd (refused-some (a .table) drawn (sym (ap (λ (x : Answer). x .refusal) answer) ∙ z)))
+    let q = c .before .before in
+    (tested-out (table (ran q)) _ (answered q) (now (handed (ran q .before) .args .words)) (c .if1 .taken), λ z. absurd (c .if1 .taken z))
 
--- a table that has a plan
-planned : (c : tie.After-enum-told) → (let a = c .before .before .before .before .before .before .before .before .args in tablePlan (a .later) (now (a .words)) (a .table) ≡ unlessLater (a .later) (now (a .words)) (a .table))
-planned c = table-accepted _ _ _ (sym (c .before .before .draw .ensures .0) ∙ c .enum-told .given .1)
+-- ---- no refusal: the table has a plan, and the run is cut up as it
+passed : (c : tie.Else1) → (let t = table (ran (c .before .before)) in (loops (t .parents) (t .count) ≡ false) × (path t ≤ t .period) × (handed (ran (c .before .before) .before) .args .later .refusal ≡ 0))
+passed c = let q = c .before .before in tested-in (table (ran q)) _ (answered q) (c .if1 .left)
 
-returns-2 : tie.Need-returns-2
-returns-2 c =
-    let told = c .before .before in
-    let a = told .before .before .before .before .before .before .before .before .args in
-    (sym (planned told ∙ later-refuses (a .later) (now (a .words)) (a .table) (c .if1 .taken)), λ z. absurd (c .if1 .taken z))
+planned : (c : tie.Else1) → Planned (table (ran (c .before .before)))
+planned c = record { range = handed (ran (c .before .before) .before) .pre .0; free = passed c .0; fits = passed c .1 }
 
-write-plan-requires : tie.Need-write-plan-requires
-write-plan-requires c κs =
-    let told = c .before .before .before .before .before .before .before in
-    let d = told .before .before in
-    (d .draw .ensures .1 (told .enum-told .given .1) .1, d .before .before .before .before .before .before .pre .1)
+work-of-requires : tie.Need-work-of-requires
+work-of-requires c κs = let r = handed (ran (c .before .before .before) .before) .pre .0 in (r .count-high, λ v. light (r .run-high v))
+
+-- where the tests were passed
+abbrev past : tie.After-work-of → tie.Else1
+past c = c .before .before
+
+segments-of : (c : tie.After-work-of) → (let r = ran (past c .before .before) in let t = table r in SegmentsOf t (t .count) (t .period) (c .work-of .result) (r .sweep .result .cut .number) (r .sweep .result .cut .time) (r .sweep .last .0) (r .sweep .last .1 .0) (r .sweep .last .1 .1 .0))
+segments-of c = record {
+  table = planned (past c);
+  count = refl;
+  period = refl;
+  work = c .work-of .ensures;
+  cut-up = ran (past c .before .before) .sweep .ensures .cut-up (passed (past c) .0);
+}
+
+write-segments-requires : tie.Need-write-segments-requires
+write-segments-requires c κs = let w = c .before .before .before .before in ((_, segments-of w), handed (ran (past w .before .before) .before) .pre .1)
+
+-- the call before, and the words once the front is written
+abbrev worked : tie.After-write-segments → tie.After-work-of
+worked c = c .before .before .before .before .before
+
+front : (c : tie.After-write-segments) → (let r = ran (past (worked c) .before .before) in c .write-segments .last .0 ≡ frontWords (table r) ++ drop (3 + 3 * segmentCount (table r)) (now (handed (r .before) .args .words)))
+front c = c .write-segments .ensures _ (segments-of (worked c))
+
+nodes-of : (c : tie.After-write-segments) → (let r = ran (past (worked c) .before .before) in let t = table r in NodesOf t (t .count) (r .sweep .last .1 .1 .1 .0) (r .sweep .last .1 .1 .1 .1 .0) (t .execution) (c .write-segments .last .0))
+nodes-of c =
+    let p = past (worked c) in
+    let r = ran (p .before .before) in
+    let kept = c .write-segments .kept .0 in
+    let room = handed (r .before) .pre .1 in
+    record {
+      table = planned p;
+      count = refl;
+      spanned = r .sweep .ensures .spanned (passed p .0);
+      executions = refl;
+      room = omega arith;
+      front = front-back (table r) (now (handed (r .before) .args .words)) (front c);
+    }
+
+write-nodes-requires : tie.Need-write-nodes-requires
+write-nodes-requires c κs = (_, nodes-of (c .before .before .before .before .before .before))
 
 accepted-requires : tie.Need-accepted-requires
 accepted-requires c κs = search needs
@@ -54,32 +123,29 @@ accepted-requires c κs = search needs
 same-length : tie.Need-same-length
 same-length c = search needs
 
-returns-3 : tie.Need-returns-3
-returns-3 c =
-    let w = c .before .before .before in
-    let free = w .before .before .before .before .before .before in
-    let told = free .before .before in
-    let d = told .before .before in
-    let a = d .before .before .before .before .before .before .args in
-    let drawn = d .draw .ensures .1 (told .enum-told .given .1) in
-    let same = drawn .0 in
-    let count = rw same at (w .write-plan .ensures .0) in
-    let wrote = rw same at (w .write-plan .ensures .1) in (
-      rw (c .accepted .ensures, count, wrote) (sym (planned told ∙ later-accepts (a .later) (now (a .words)) (a .table) (free .if1 .left))),
-      λ z. rw (← same) (record { table = drawn .1 .lined .table; work = drawn .1 .work; path = drawn .1 .path }),
+returns-2 : tie.Need-returns-2
+returns-2 c =
+    let n = c .before .before .before in
+    let w = n .before .before .before .before .before .before .before in
+    let p = past (worked w) in
+    let t = table (ran (p .before .before)) in
+    let a = handed (ran (p .before .before) .before) .args in
+    let wrote = n .write-nodes .ensures _ (nodes-of w) in (
+      rw (c .accepted .ensures, wrote .0, wrote .1 ∙ past-front t (now (a .words)) (front w))
+          (sym (on-fits _ _ t (passed p .0) (passed p .1) ∙ later-accepts (a .later) (now (a .words)) t (passed p .2))),
+      λ z. record { table = planned p; work = segments-of (worked w) .work; path = path-so (segments-of (worked w)) },
     )
 
 pub plan-table-spec : {M : Type 1} → statement M
 plan-table-spec =
     tie.close
     (tie.spec
-    draw-requires
-    enum-told
-    enum-told-2
-    answer-of-requires
+    sweep-requires
+    tested-requires
     returns
-    returns-2
-    write-plan-requires
+    work-of-requires
+    write-segments-requires
+    write-nodes-requires
     accepted-requires
     same-length
-    returns-3)
+    returns-2)

@@ -1,76 +1,74 @@
 -- `plans::write_segments` meets its contract: the cut leaves threads and lengths, the deal read off them is the table's own, its numerators go
 -- beside them, and the head is written last.
-use mathlib.Core.Path.{_≡_, refl, ap, _∙_}
+use mathlib.Core.Path.{_≡_, ap, _∙_}
 use native.Mathlib.Omega.{arith}
 use borrow.Author.Needs.{needs}
 use lib.ListN.{length-set}
 use denote.Ref.{now}
+use Rattle.tables.specs.declared.TaskTable.{TaskTable}
 use Rattle.segments.specs.Inner.Words.{CutWords}
 use Rattle.segments.proofs.Segments.{segments-le}
 use Rattle.shares.specs.declared.Deal.{Deal}
 use Rattle.shares.specs.Inner.Asked.{DealIn}
 use Rattle.shares.specs.Inner.Written.{Numbered}
 use Rattle.shares.proofs.Bounds.{fill-in}
-use Rattle.plans.specs.Diagram.{start, finish, work, path, segmentCount}
+use Rattle.plans.specs.Diagram.{finish, work, path, segmentCount, threadsIn, lengthIn}
 use Rattle.plans.specs.Shares.{dealOf}
-use Rattle.plans.proofs.Lined.{starting-so, finishing-so, cut-in, count-so, words-so, deal-so, deal-in}
+use Rattle.plans.specs.Inner.Drawn.{SegmentsOf}
+use Rattle.plans.proofs.Drawn.{path-so, cut-in, words-so, deal-so, deal-in}
 use Rattle.plans.proofs.Front.{fronted}
 use Rattle.plans.proofs.write_segments.Statement.{statement}
 use Rattle.plans.proofs.write_segments.Tie as tie
 
--- after the cut: the number of segments, and what the words hold
-count : (c : tie.After-cut-words) → c .cut-words .result ≡ segmentCount (c .before .before .before .before .args .drawing .table)
-count c = count-so (c .before .before .before .before .pre .0 .lined) (c .cut-words .ensures .0)
+-- what was handed in, and that it is the run of a table
+abbrev handed : tie.After-cut-words → tie.Start
+handed c = c .before .before .before
 
-words : (c : tie.After-cut-words) → (let a = c .before .before .before .before .args in let t = a .drawing .table in CutWords (t .count) (start t) (finish t) (segmentCount t) (now (a .words)) (c .cut-words .last .0))
-words c =
-    let w = words-so (c .before .before .before .before .pre .0 .lined) (c .cut-words .ensures .1) in
-    rw (count c) at w
+abbrev Of : tie.Start → TaskTable → Type 0
+Of c t = let a = c .args in SegmentsOf t (a .n) (a .period) (a .work) (a .swept .cut .number) (a .swept .cut .time) (now (a .threads)) (now (a .enders)) (now (a .finishes))
 
--- so the words are ready for the deal
-dealt : (c : tie.After-cut-words) → (let d = c .before .before .before .before .args .drawing in DealIn (c .cut-words .last .0) (c .cut-words .result) (d .table .period) (d .work) (d .path))
-dealt c =
-    let drawn = c .before .before .before .before .pre .0 in
-    let room = c .before .before .before .before .pre .1 in
-    let kept = words c .room in
-    rw (count c, drawn .work, drawn .path) (deal-in (drawn .lined .table) (words c) (omega arith))
+-- after the cut the words hold that table's threads and lengths
+words : (c : tie.After-cut-words) (t : TaskTable) → Of (handed c) t → CutWords (threadsIn t) (lengthIn t) (segmentCount t) (now (handed c .args .words)) (c .cut-words .last .0)
+words c t d = words-so d (c .cut-words .ensures)
+
+-- so they are ready for the deal
+dealt : (c : tie.After-cut-words) (t : TaskTable) → Of (handed c) t → (let a = handed c .args in DealIn (c .cut-words .last .0) (a .swept .cut .number) (a .period) (a .work) (a .swept .cut .time))
+dealt c t d =
+    let room = handed c .pre .1 in
+    let kept = words c t d .room in
+    deal-in d (words c t d) (omega arith)
 
 -- and the deal is the table's own
-dealing : (c : tie.After-deal-of) → c .deal-of .result ≡ dealOf (c .before .before .before .before .before .before .before .before .args .drawing .table)
-dealing c =
-    let k = c .before .before .before .before in
-    let drawn = k .before .before .before .before .pre .0 in
-    let e = c .deal-of .ensures in
-    (rw (count k, drawn .work, drawn .path) at e) ∙ deal-so (drawn .lined .table) (words k)
+dealing : (c : tie.After-deal-of) (t : TaskTable) → Of (handed (c .before .before .before .before)) t → c .deal-of .result ≡ dealOf t
+dealing c t d = c .deal-of .ensures ∙ deal-so d (words (c .before .before .before .before) t d)
 
 -- so are the numerators
-numbered : (c : tie.After-fill-numerators) → (let k = c .before .before .before .before .before .before in let t = k .before .before .before .before .args .drawing .table in Numbered (dealOf t) (t .period) (work t) (path t) (segmentCount t) (k .cut-words .last .0) (c .fill-numerators .last .0))
-numbered c =
-    let k = c .before .before .before .before .before .before in
-    let drawn = k .before .before .before .before .pre .0 in
+numbered : (c : tie.After-fill-numerators) (t : TaskTable) → (let k = c .before .before .before .before .before .before in Of (handed k) t → Numbered (dealOf t) (t .period) (work t) (path t) (segmentCount t) (k .cut-words .last .0) (c .fill-numerators .last .0))
+numbered c t d =
     let e = c .fill-numerators .ensures in
-    rw (dealing (c .before .before), count k, drawn .work, drawn .path) at e
+    rw (dealing (c .before .before) t d, d .cut-up .count, d .period, d .work, path-so d) at e
 
 returns : tie.Need-returns
-returns c =
+returns c = λ t d.
     let f = c .before .before in
     let k = f .before .before .before .before .before .before in
-    let t = k .before .before .before .before .args .drawing .table in
-    let room = k .before .before .before .before .pre .1 in
+    let room = handed k .pre .1 in
     let few = segments-le (t .count) (finish t) in
-    let most = k .before .before .before .before .pre .0 .lined .table .range .count-high in
-    let cut-kept = words k .room in
-    let kept = numbered f .size in
-    fronted t (words k) (numbered f) (omega arith) (ap (λ (d : Deal). d .over) (dealing (f .before .before))) (count k) refl
+    let most = d .table .range .count-high in
+    let cut-kept = words k t d .room in
+    let kept = numbered f t d .size in
+    fronted t (words k t d) (numbered f t d) (omega arith) (ap (λ (x : Deal). x .over) (dealing (f .before .before) t d)) (d .cut-up .count) (d .count)
 
 cut-words-requires : tie.Need-cut-words-requires
-cut-words-requires c κs = let p = c .before .before .before .pre in (cut-in (p .0 .lined) (p .1), starting-so (p .0 .lined), finishing-so (p .0 .lined))
+cut-words-requires c κs = let p = c .before .before .pre in cut-in (p .0 .1) (p .1)
 
 deal-of-requires : tie.Need-deal-of-requires
-deal-of-requires c κs = dealt (c .before .before .before)
+deal-of-requires c κs = let k = c .before .before .before in dealt k _ (handed k .pre .0 .1)
 
 fill-numerators-requires : tie.Need-fill-numerators-requires
-fill-numerators-requires c κs = rw (c .before .deal-of .ensures) (fill-in (dealt (c .before .before .before .before .before)))
+fill-numerators-requires c κs =
+    let k = c .before .before .before .before .before in
+    rw (c .before .deal-of .ensures) (fill-in (dealt k _ (handed k .pre .0 .1)))
 
 slice-write-words : tie.Need-slice-write-words
 slice-write-words c = search needs

@@ -1,14 +1,18 @@
--- What the functions hand to each other: a table's timing diagram in arrays.
+-- What the functions hand to each other: a table's run, in lists and numbers.
 use mathlib.Core.Path.{_≡_}
+use mathlib.Core.Bool.{Bool}
 use mathlib.Core.List.{List}
 use Prim.Native.Nat.{ℕ, _+_, _*_, _≤_}
 use lib.ListN.{length, take}
-use Rattle.plain.specs.At.{at}
+use Rattle.plain.specs.Pick.{pick}
+use Rattle.refusals.specs.Numbers.{loop, longPath}
+use Rattle.refusals.specs.declared.Answer.{Answer}
 use Rattle.refusals.specs.declared.Outcome.{Outcome}
 use Rattle.refusals.specs.declared.Outcome.the-variants as outcome
+use Rattle.refusals.specs.Refusal.{refusal}
+use Rattle.refusals.specs.Answer.{refused}
 use Rattle.tables.specs.declared.TaskTable.{TaskTable}
-use Rattle.lineups.specs.Inner.LinedUp.{LinedUp}
-use Rattle.plans.specs.declared.Drawing.{Drawing}
+use Rattle.diagrams.specs.Inner.Traced.{CutUp, Spanned}
 use Rattle.plans.specs.declared.Planning.{Planning}
 use Rattle.plans.specs.Diagram.{start, finish, work, path, segmentCount}
 use Rattle.plans.specs.Words.{wordsMax, frontWords}
@@ -19,22 +23,24 @@ use Rattle.plans.specs.Inner.Planned.{Planned}
 abbrev pub outcomeOf : TaskTable → Outcome
 outcomeOf t = onTable outcome.Refused (λ _. outcome.Accepted) t
 
--- S and F hold the table's starts and finishes, A and B its nodes in the order of these
-pub record Lined (t : TaskTable) (S F A B : List ℕ) : Type 0 where
+-- the answer by two tests: 10, 11, else the later rules' own
+abbrev pub tested : (looped long : Bool) → Answer → Answer
+tested looped long later = pick looped (refused (refusal loop 0)) (pick long (refused (refusal longPath 0)) later)
+
+-- of a table that has a plan: its node count, period and work, and its run cut up into segments
+pub record SegmentsOf (t : TaskTable) (n T C s P : ℕ) (m en e : List ℕ) : Type 0 where
   pub table : Planned t
-  pub starts : (v : ℕ) → at S v ≡ start t v
-  pub finishes : (v : ℕ) → at F v ≡ finish t v
-  pub starting : LinedUp (t .count) (start t) A
-  pub finishing : LinedUp (t .count) (finish t) B
+  pub count : n ≡ t .count
+  pub period : T ≡ t .period
+  pub work : C ≡ work t
+  pub cut-up : CutUp (t .count) (start t) (finish t) s P m en e
 
--- the same beside the table's work and path
-pub record Drawn (d : Drawing) (S F A B : List ℕ) : Type 0 where
-  pub lined : Lined (d .table) S F A B
-  pub work : d .work ≡ work (d .table)
-  pub path : d .path ≡ path (d .table)
-
--- the head and the segments' triples stand in the words
-pub record Fronted (t : TaskTable) (words : List ℕ) : Type 0 where
+-- of a table that has a plan: its node count, the cuts of its nodes, its executions, and words that begin with its head and its segments' triples
+pub record NodesOf (t : TaskTable) (n : ℕ) (f z X words : List ℕ) : Type 0 where
+  pub table : Planned t
+  pub count : n ≡ t .count
+  pub spanned : Spanned (t .count) (start t) (finish t) f z
+  pub executions : X ≡ t .execution
   pub room : wordsMax ≤ length words
   pub front : take (3 + 3 * segmentCount t) words ≡ frontWords t
 

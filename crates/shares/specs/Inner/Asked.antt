@@ -1,13 +1,14 @@
 -- What the functions ask of their callers, so that every sum and product fits.
 use mathlib.Core.List.{List}
-use Prim.Native.Nat.{ℕ, _+_, _*_, _-_, _^_, _≤_, _<_}
+use Prim.Native.Nat.{ℕ, _+_, _*_, _^_, _≤_, _<_}
 use lib.ListN.{length}
 use Rattle.plain.specs.At.{at}
 use Rattle.plain.specs.Sums.{sumTo}
 use Rattle.tables.specs.Limits.{periodMax, countMax}
 use Rattle.tables.specs.Inner.Limits.{runMax, workMax, overMax}
 use Rattle.shares.specs.declared.Deal.{Deal}
-use Rattle.shares.specs.Inner.Words.{threadsAt, lengthAt, numeratorAt, edge}
+use Rattle.shares.specs.Inner.Words.{threadsAt, lengthAt, numeratorAt}
+use Rattle.shares.specs.Inner.Spans.{offsetBy, spanBy}
 use Rattle.shares.specs.Inner.Segmented.{Segmented}
 
 -- the greatest rate of a deal: 2T − L
@@ -50,15 +51,16 @@ pub record FillIn (w : List ℕ) (s : ℕ) (d : Deal) (T P : ℕ) : Type 0 where
   pub room : 3 + 3 * s ≤ length w
   pub each : (j : ℕ) → j < s → NumeratorIn d T P (threadsAt w j) (lengthAt w j)
 
--- the segments in the words: the sums over all of them fit
+-- the segments in the words: what they are given in all fits
 pub record SumsIn (w : List ℕ) (s : ℕ) : Type 0 where
   pub room : 3 + 3 * s ≤ length w
-  pub lengths : edge w s < 2 ^ 64
+  pub few : s ≤ countMax
   pub numerators : sumTo s (numeratorAt w) < 2 ^ 64
 
 -- the node part of a plan: no node ends, in stretched time, before its offset
-pub record NodesIn (offsets ends executions : List ℕ) (n over words : ℕ) : Type 0 where
+pub record NodesIn (sums first last executions : List ℕ) (n over words : ℕ) : Type 0 where
   pub count : n ≤ countMax
   pub room : 3 * n ≤ words
-  pub runs : (v : ℕ) → v < n → at offsets v ≤ at ends v
-  pub each : (v : ℕ) → v < n → DensityIn (at executions v) over (at ends v - at offsets v)
+  pub cuts : (v : ℕ) → v < n → (at first v ≤ countMax) × (at last v ≤ countMax)
+  pub runs : (v : ℕ) → v < n → offsetBy sums first v ≤ at sums (at last v)
+  pub each : (v : ℕ) → v < n → DensityIn (at executions v) over (spanBy sums first last v)

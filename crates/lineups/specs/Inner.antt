@@ -1,2 +1,0 @@
-pub mod LinedUp
-pub mod Placing
