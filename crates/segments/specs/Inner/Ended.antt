@@ -12,7 +12,7 @@ ended k e (suc j) = at e (at k j)
 abbrev pub lengthBy : (k e : List ℕ) → ℕ → ℕ
 lengthBy k e j = ended k e (suc j) - ended k e j
 
--- what the writer of s segments asks: room for their triples after three words, threads m of a word's size at most, enders that are nodes, and
+-- what the writer of s segments asks: room for their triples after three words, at most 64 threads m each, enders that are nodes, and
 -- no cut before an earlier one
 pub record CutIn (m k e : List ℕ) (s room : ℕ) : Type 0 where
   pub few : s ≤ 64
