@@ -1,15 +1,29 @@
-/* Plans a task, admits it, asks for the verdict and withdraws it, through planner.h. */
+/* Plans a task, admits it, asks for the verdict and withdraws it, through planner.h; shows where another goes round. */
 #include <inttypes.h>
 #include <stdio.h>
 
 #include "planner.h"
 
+/* The nodes of a set, node k being bit k. */
+static void show_nodes(uint64_t set)
+{
+    for (unsigned node = 0; node < 64; node++)
+        if ((set >> node) & 1)
+            printf(" %u", node);
+}
+
 static void show(const char *call, struct planner_answer a)
 {
-    if (a.refusal == 0)
+    if (a.refusal == 0) {
         printf("%s: %" PRIu64 "\n", call, a.value);
-    else
-        printf("%s: refused %" PRIu64 " at %" PRIu64 "\n", call, a.refusal, a.place);
+        return;
+    }
+    printf("%s: refused %" PRIu64 " at %" PRIu64, call, a.refusal, a.place);
+    if (a.ring != 0) {
+        printf(", ring");
+        show_nodes(a.ring);
+    }
+    printf("\n");
 }
 
 int main(void)
@@ -18,12 +32,26 @@ int main(void)
     static const uint8_t record[] = {0x01, 0x03, 0x06, 0x03, 0x03, 0x00, 0x01, 0x00, 0x01, 0x01, 0x01};
     /* The same with its period padded: 86 00 for 06. */
     static const uint8_t padded[] = {0x01, 0x03, 0x86, 0x00, 0x03, 0x03, 0x00, 0x01, 0x00, 0x01, 0x01, 0x01};
+    /* tangle.task: steps 5, 6 and 9 of 12 wait for each other. */
+    static const uint8_t tangle[] = {
+        0x01, 0x2A, 0x78, 0x0C,                         /* edition, id 42, period 120, 12 nodes */
+        0x04, 0x00, 0x04, 0x00, 0x03, 0x00, 0x02, 0x00, /* nodes 0 to 3: no parents */
+        0x05, 0x02, 0x00, 0x01,                         /* 4 */
+        0x07, 0x03, 0x02, 0x03, 0x06,                   /* 5 */
+        0x05, 0x02, 0x03, 0x09,                         /* 6 */
+        0x05, 0x01, 0x02,                               /* 7 */
+        0x09, 0x03, 0x04, 0x05, 0x06,                   /* 8 */
+        0x08, 0x02, 0x04, 0x05,                         /* 9 */
+        0x09, 0x02, 0x04, 0x07,                         /* 10 */
+        0x0A, 0x02, 0x06, 0x07,                         /* 11 */
+    };
     static uint64_t words[PLANNER_WORDS];
     static struct planner_row board[PLANNER_ROWS];
 
     show("plan", planner_plan(record, sizeof record, words, PLANNER_WORDS));
     printf("over %" PRIu64 ", %" PRIu64 " segments, %" PRIu64 " nodes\n", words[0], words[1], words[2]);
     show("plan padded", planner_plan(padded, sizeof padded, words, PLANNER_WORDS));
+    show("plan tangle", planner_plan(tangle, sizeof tangle, words, PLANNER_WORDS));
     show("admit", planner_admit(record, sizeof record, words, PLANNER_WORDS, board, PLANNER_ROWS));
     show("admit again", planner_admit(record, sizeof record, words, PLANNER_WORDS, board, PLANNER_ROWS));
     show("ask 1 core", planner_ask(board, PLANNER_ROWS, 1));

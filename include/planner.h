@@ -12,6 +12,9 @@
 #include <stddef.h>
 #include <stdint.h>
 
+/* Goes up with each release that changes a call's parameters or a struct's fields. Version 1 had no such number. */
+#define PLANNER_VERSION 2
+
 /* The most words that a plan has; a smaller buffer is refused by 16. */
 #define PLANNER_WORDS 387
 
@@ -19,7 +22,9 @@
 #define PLANNER_ROWS 16
 
 /* What a call answers. refusal 0: accepted, and value holds what the call returns. Otherwise refusal is the number of
- * the rule that was broken, place where in the record it was met (for 1 the record's length, from 10 to 17 0), value 0.
+ * the rule that was broken, value 0, and place where it was met: a byte of the record (for 1 the record's length), for 10
+ * the smallest node that waits for itself, from 11 to 17 0. ring (since version 2) is for 10 the set of nodes of one loop
+ * through that node, node k as bit k, from which none can be left out; with every other answer it is 0.
  * Refusals: 1 the record ends too early; 2 a number's fourth byte has its top bit set; 3 edition, 4 id, 5 period, 6 node
  * count, 7 execution out of range; 8 a parent count or parent out of range or order; 9 bytes follow the record; 10 a node
  * waits for itself, over others or not; 11 the path is longer than the period; 12 the id stands already; 13 no row is
@@ -29,6 +34,7 @@ struct planner_answer {
     uint64_t refusal;
     uint64_t place;
     uint64_t value;
+    uint64_t ring;
 };
 
 /* One row of the board. A free row is all zeros: a board of 16 such rows is empty. sum and largest are the total and

@@ -4,7 +4,7 @@ use mathlib.Core.Path.{_≡_, refl, ap}
 use mathlib.Core.List.{List}
 use Prim.Native.Nat.{ℕ, _≤_}
 use native.Mathlib.Omega.{arith}
-use Rattle.refusals.specs.Numbers.{loop, longPath, fewWords, unsoundBoard}
+use Rattle.refusals.specs.Numbers.{longPath, fewWords, unsoundBoard}
 use Rattle.refusals.specs.declared.Refusal.{Refusal}
 use Rattle.refusals.specs.Refusal.{refusal}
 use Rattle.refusals.specs.Answer.{refused}
@@ -12,7 +12,7 @@ use Rattle.tables.specs.declared.TaskTable.{TaskTable}
 use Rattle.refusals.proofs.Readers.{readers-low}
 use Rattle.records.proofs.Expected.{refused-told}
 use Rattle.plans.specs.Accepted.{Accepted}
-use Rattle.plans.specs.Calls.{taskOf}
+use Rattle.plans.specs.Calls.{loopIn, taskOf}
 use Rattle.plans.proofs.Cases.Tasking.{unread, round, long, goes}
 use Rattle.plans.proofs.Table.{plans-accepted}
 use Rattle.boards.specs.declared.Row.{Row}
@@ -45,7 +45,7 @@ module _ (bytes words : List ℕ) (rows : List Row) where
   ending (few w) = out (refusal fewWords 0) (omega arith)
   ending (unsound w u) = out (refusal unsoundBoard 0) (omega arith)
   ending (tries w s (unread r e)) = out r (readers-low (r .number) (refused-told bytes r e .own))
-  ending (tries w s (round e l)) = out (refusal loop 0) (omega arith)
+  ending (tries w s (round e l)) = out (loopIn (taskOf bytes)) (omega arith)
   ending (tries w s (long e l h)) = out (refusal longPath 0) (omega arith)
   ending (tries w s (goes e ok)) = entry s ok
 

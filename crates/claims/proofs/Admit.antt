@@ -8,7 +8,7 @@ use native.Mathlib.Omega.{arith}
 use lib.Dec.{eqb}
 use borrow.Author.Tests.{eqb-false}
 use Rattle.plain.specs.Pick.{pick}
-use Rattle.refusals.specs.Numbers.{idStands, boardFull}
+use Rattle.refusals.specs.Numbers.{idStands, boardFull, fewWords, unsoundBoard}
 use Rattle.refusals.specs.Refusal.{refusal}
 use Rattle.refusals.specs.Answer.{accepted}
 use Rattle.tables.specs.declared.TaskTable.{TaskTable}
@@ -29,11 +29,12 @@ use Rattle.admissions.proofs.Cases.Admitting.{few, unsound, tries}
 use Rattle.admissions.proofs.Keeping.{refused-kept, accepted-entered}
 use Rattle.planner.specs.Calls.{admitCall}
 use Rattle.claims.specs.Rule.{Decides, IsAccepted, IsRefused}
+use Rattle.claims.specs.Record.{NamesLoop}
 use Rattle.claims.specs.Board.{IsFree, Lowest}
 use Rattle.claims.specs.Admit.{boardRules, admitRules, admitted, OfAdmitting}
-use Rattle.claims.proofs.Rule.{single, only-when, gives, not-given}
+use Rattle.claims.proofs.Rule.{single, gives, not-given}
 use Rattle.claims.proofs.Promise.{promised}
-use Rattle.claims.proofs.Record.{record-singles, decided}
+use Rattle.claims.proofs.Record.{record-singles, decided, names-loop}
 use Rattle.claims.proofs.Plan.{good-plan}
 use Rattle.claims.proofs.Board.{one-lowest, some-id, no-id, some-free, no-free, lowest-free}
 
@@ -81,6 +82,20 @@ module _ (bytes words : List ℕ) (rows : List Row) where
             ),
           )
 
+  -- 10 names the loop
+  loop-named : admission bytes words rows .change .answer .refusal ≡ 10 → NamesLoop (taskOf bytes) (admission bytes words rows .change .answer)
+  loop-named = go (admitting bytes words rows)
+    where
+      other : {x : Admission} → Entering rows words (taskOf bytes) x → x .change .answer .refusal ≡ 10 → ⊥
+      other (stands h) z = eqb-false idStands 10 refl z
+      other (full h f) z = eqb-false boardFull 10 refl z
+      other (fills h f) z = eqb-false 0 10 refl z
+
+      go : {x : Admission} → Admitting bytes words rows x → x .change .answer .refusal ≡ 10 → NamesLoop (taskOf bytes) (x .change .answer)
+      go (few w) z = absurd (eqb-false fewWords 10 refl z)
+      go (unsound w u) z = absurd (eqb-false unsoundBoard 10 refl z)
+      go (tries w s t) z = names-loop (λ (x : Admission). x .change .answer) (λ r. refl) bytes (other (entering rows words (taskOf bytes))) t z
+
   -- a sound board, an accepted table whose id no row has, and the lowest free row filled
   pub record Admitted (x : Admission) : Type 0 where
     pub sound : Sound rows
@@ -114,10 +129,11 @@ module _ (bytes words : List ℕ) (rows : List Row) where
 pub of-admitting : OfAdmitting
 of-admitting = record {
   call = λ bytes words rows. promised (admitCall bytes words rows)
-      (only-when (admitRules bytes words rows) (Lowest (IsFree rows))
-      (single _ _, (single _ _, (record-singles bytes .0, (single _ _, (single _ _, (single _ _, (single _ _, tt)))))))
-      (one-lowest (IsFree rows)) (decides bytes words rows))
+      (admitRules bytes words rows) (Lowest (IsFree rows))
+      (single _ _, (single _ _, (record-singles bytes .0, (record-singles bytes .1 .0, (single _ _, (single _ _, (single _ _, tt)))))))
+      (one-lowest (IsFree rows)) (decides bytes words rows)
       (admit-untouched bytes words rows)
       (admit-written bytes words rows);
+  loop = λ bytes words rows a e. rw e (loop-named bytes words rows);
   plan = λ bytes words rows a e z. good-plan (admit-accepted bytes words rows (rw e at z) .table);
 }

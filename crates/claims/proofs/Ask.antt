@@ -18,7 +18,7 @@ use Rattle.boards.proofs.Cases.Asking.{unsound, outside, told}
 use Rattle.planner.specs.Calls.{askCall}
 use Rattle.claims.specs.Rule.{Decides}
 use Rattle.claims.specs.Ask.{askRules, Fits, askValue, OfAsking}
-use Rattle.claims.proofs.Rule.{OneValue, single, only-when, gives, not-given}
+use Rattle.claims.proofs.Rule.{OneValue, single, gives, not-given}
 use Rattle.claims.proofs.Promise.{promised}
 
 module _ (rows : List Row) (m : ℕ) where
@@ -57,7 +57,7 @@ module _ (rows : List Row) (m : ℕ) where
 
 -- the promise
 pub of-asking : OfAsking
-of-asking rows m = promised (askCall rows m) (only-when (askRules rows m) (askValue rows m) (single _ _, (single _ _, tt)) (one-told rows m) (decides rows m)) (λ n. refl) (λ z. refl)
+of-asking rows m = promised (askCall rows m) (askRules rows m) (askValue rows m) (single _ _, (single _ _, tt)) (one-told rows m) (decides rows m) (λ n. refl) (λ z. refl)
 
 -- the inequality is a yes
 pub fits-yes : (rows : List Row) (m : ℕ) → Sound rows → 1 ≤ m → m ≤ 64 → Fits rows m → asked rows m ≡ accepted 1

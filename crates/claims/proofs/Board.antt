@@ -1,10 +1,9 @@
 -- Rows by their ids: an id has a row just where its place is one, and that is the lowest such row; of a sound board just the free rows have id 0.
 use mathlib.Core.Path.{ap}
-use mathlib.Core.Logic.{⊎-elim}
 use mathlib.Core.List.{List}
 use Prim.Native.Nat.{ℕ, _≤_, _<_}
 use native.Mathlib.Omega.{arith}
-use Rattle.plain.proofs.Lists.{lt-or-ge}
+use Rattle.plain.proofs.Lists.{one-least}
 use Rattle.boards.specs.declared.Row.{Row}
 use Rattle.boards.specs.Row.{rowsMax}
 use Rattle.boards.specs.Sound.{Sound}
@@ -16,10 +15,7 @@ use Rattle.claims.proofs.Rule.{OneValue}
 
 -- the lowest row with a property is one
 pub one-lowest : (holds : ℕ → Type 0) → OneValue (Lowest holds)
-one-lowest holds v w a b = ⊎-elim
-    (λ (l : v < w). absurd (b .before v l (a .here)))
-    (λ (l : w ≤ v). ⊎-elim (λ (g : w < v). absurd (a .before w g (b .here))) (λ (g : v ≤ w). omega arith) (lt-or-ge w v))
-    (lt-or-ge v w)
+one-lowest holds v w a b = one-least holds v w (a .here) (a .before) (b .here) (b .before)
 
 module _ {rows : List Row} (s : Sound rows) where
   -- an id has a row just where its place is one

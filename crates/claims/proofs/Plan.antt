@@ -24,10 +24,11 @@ use Rattle.plans.proofs.Figures.{deadline-some}
 use Rattle.plans.proofs.Cases.{Tasking, tasking}
 use Rattle.plans.proofs.Cases.Tasking.{unread, round, long, goes}
 use Rattle.claims.specs.Rule.{Decides, IsAccepted, IsRefused}
+use Rattle.claims.specs.Record.{NamesLoop}
 use Rattle.claims.specs.Plan.{planRules, planValue, GoodPlan, OfPlanning}
-use Rattle.claims.proofs.Rule.{single, only-when, gives, not-given}
+use Rattle.claims.proofs.Rule.{single, gives, not-given}
 use Rattle.claims.proofs.Promise.{promised}
-use Rattle.claims.proofs.Record.{record-singles, unread-some, decided}
+use Rattle.claims.proofs.Record.{record-singles, unread-some, decided, names-loop}
 
 module _ (bytes words : List ℕ) where
   -- 16; else what the record's task comes to, with its plan
@@ -62,6 +63,14 @@ module _ (bytes words : List ℕ) where
       go (tries w (long e l h)) n = refl
       go (tries w (goes e ok)) n = absurd (n refl)
 
+  -- 10 names the loop
+  loop-named : planCall bytes words .answer .refusal ≡ 10 → NamesLoop (taskOf bytes) (planCall bytes words .answer)
+  loop-named = go planning
+    where
+      go : {x : After (List ℕ)} → PlanCase x → x .answer .refusal ≡ 10 → NamesLoop (taskOf bytes) (x .answer)
+      go (few w) z = absurd (eqb-false fewWords 10 refl z)
+      go (tries w t) z = names-loop (λ (x : After (List ℕ)). x .answer) (λ r. refl) bytes (eqb-false 0 10 refl) t z
+
   -- an acceptance is an accepted table's plan
   pub plan-accepted : IsAccepted (planCall bytes words .answer) → Accepted (taskOf bytes) × (planCall bytes words ≡ planned words (taskOf bytes))
   plan-accepted = go planning
@@ -91,8 +100,9 @@ good-plan {t} a =
 pub of-planning : OfPlanning
 of-planning = record {
   call = λ bytes words. promised (planCall bytes words)
-      (only-when (planRules bytes words) (planValue bytes) (single _ _, record-singles bytes) (λ v w e f. e ∙ sym f) (decides bytes words))
+      (planRules bytes words) (planValue bytes) (single _ _, record-singles bytes) (λ v w e f. e ∙ sym f) (decides bytes words)
       (untouched bytes words)
       (λ z. ap (λ (x : After (List ℕ)). x .lent) (plan-accepted bytes words z .1));
+  loop = λ bytes words a e. rw e (loop-named bytes words);
   plan = λ bytes words a e z. good-plan (plan-accepted bytes words (rw e at z) .0);
 }

@@ -8,12 +8,13 @@ use borrow.Author.Tests.{eqb-false, lt-ltb, le-ltb}
 use Rattle.refusals.specs.Numbers.{loop, longPath, fewWords}
 use Rattle.refusals.specs.declared.Refusal.{Refusal}
 use Rattle.refusals.specs.declared.Answer.{Answer}
+use Rattle.refusals.specs.Refusal.{refusal}
 use Rattle.refusals.specs.Answer.{refused}
 use Rattle.refusals.specs.After.{After}
 use Rattle.segments.proofs.Segments.{segments-le}
 use Rattle.plans.specs.Diagram.{finish}
 use Rattle.plans.specs.Words.{wordsMax}
-use Rattle.plans.specs.Calls.{taskOf}
+use Rattle.plans.specs.Calls.{loopIn, taskOf}
 use Rattle.plans.proofs.Tests.{task-refused, task-read, on-loop, on-long, on-fits}
 use Rattle.plans.proofs.Read.{at-segments, at-nodes}
 use Rattle.plans.proofs.Cases.{Tasking, tasking}
@@ -55,8 +56,8 @@ module _ (bytes words : List ℕ) where
 -- every sheet fits
 fits : (bytes : List ℕ) {x : List ℕ} → Tasking refusedLine tableSheet bytes x → length x ≤ sheetMax
 fits bytes (unread r e) = refusal-fits r
-fits bytes (round e l) = refusal-fits _
-fits bytes (long e l h) = refusal-fits _
+fits bytes (round e l) = refusal-fits (loopIn (taskOf bytes))
+fits bytes (long e l h) = refusal-fits (refusal longPath 0)
 fits bytes (goes e ok) =
     let t = taskOf bytes in
     let few = segments-le (t .count) (finish t) in

@@ -3,17 +3,21 @@ use mathlib.Core.Path.{_≡_, sym, _∙_}
 use mathlib.Core.List.{List}
 use Prim.Native.Nat.{ℕ}
 use Rattle.refusals.specs.After.{After}
-use Rattle.claims.specs.Rule.{Rule, OnlyWhen, IsAccepted, IsRefused}
+use Rattle.claims.specs.Rule.{Rule, Decides, IsAccepted, IsRefused}
 use Rattle.claims.specs.Promise.{Promise}
+use Rattle.claims.proofs.Rule.{OneValue, Singles, only-when, bare-answer}
 
-pub promised : {Lent : Type 0} (call : After Lent) {lent : Lent} {rules : List Rule} {value : ℕ → Type 0} {left : ℕ → Lent}
-    → OnlyWhen rules value (call .answer)
+pub promised : {Lent : Type 0} (call : After Lent) {lent : Lent} (rules : List Rule) (value : ℕ → Type 0) {left : ℕ → Lent}
+    → Singles rules
+    → OneValue value
+    → Decides rules value (call .answer)
     → (IsRefused (call .answer) → call .lent ≡ lent)
     → (IsAccepted (call .answer) → call .lent ≡ left (call .answer .value))
     → Promise (λ (a : After Lent). a ≡ call) lent rules value left
-promised call decided untouched written = record {
+promised call rules value singles alone decided untouched written = record {
   one-answer = λ a b p q. p ∙ sym q;
-  only-when = λ a e. rw e decided;
+  only-when = λ a e. rw e (only-when rules value singles alone decided);
+  empty-set = λ a e. rw e (bare-answer rules value (call .answer) singles decided);
   untouched = λ a e. rw e untouched;
   written = λ a e. rw e written;
 }

@@ -1,16 +1,19 @@
 -- A record's rules decide what its task comes to: in every case of the task the earlier rules are shown not to hold, and the rule of the case is.
 use mathlib.Core.Path.{_≡_, refl, sym, ap, _∙_}
 use mathlib.Core.Logic.{inl, inr}
-use mathlib.Core.Bool.{false}
+use mathlib.Core.Bool.{true, false}
 use mathlib.Core.List.{List, _++_}
 use Prim.Native.Nat.{ℕ, _≤_}
 use native.Mathlib.Omega.{arith}
+use borrow.Author.Tests.{eqb-false}
+use Rattle.plain.proofs.Lists.{one-least}
+use Rattle.refusals.specs.Numbers.{loop, longPath}
 use Rattle.refusals.specs.declared.Refusal.{Refusal}
 use Rattle.refusals.specs.declared.Answer.{Answer}
 use Rattle.refusals.specs.declared.Outcome.the-variants.{Accepted, Refused}
-use Rattle.refusals.specs.Refusal.{refusal}
+use Rattle.refusals.specs.Refusal.{refusal, looped}
 use Rattle.refusals.specs.Answer.{refused}
-use Rattle.refusals.proofs.Readers.{readers-low}
+use Rattle.refusals.proofs.Readers.{readers-low, readers-not-loop}
 use Rattle.tables.specs.declared.TaskTable.{TaskTable}
 use Rattle.tables.proofs.Plannable.{plannable}
 use Rattle.records.specs.declared.Reading.{Reading}
@@ -22,17 +25,21 @@ use Rattle.records.specs.Expected.Due.{edition, id, period, count, execution, p
 use Rattle.records.specs.Expected.Refuses.{ends, long as too-long, padded, outside, follow}
 use Rattle.records.proofs.Answers.{accepted-table, refused-table}
 use Rattle.records.proofs.Expected.{rule-refused, refused-rule, spelt-read, read-spelt, refused-told}
-use Rattle.ways.specs.Reaches.{Loops}
+use Rattle.ways.specs.Reaches.{Reaches}
+use Rattle.ways.specs.Inner.Tidy.{Tidy}
 use Rattle.ways.specs.Closure.{loops}
-use Rattle.ways.proofs.Closure.{loops-yes, loops-no}
+use Rattle.ways.proofs.Closure.{loops-no}
+use Rattle.rings.specs.Ring.{named, ring}
+use Rattle.rings.specs.Round.{Smallest}
+use Rattle.rings.proofs.Round.{one-round, named-smallest}
 use Rattle.plans.specs.Accepted.{Accepted as Accepted-table}
-use Rattle.plans.specs.Calls.{taskOf}
+use Rattle.plans.specs.Calls.{loopIn, taskOf}
 use Rattle.plans.proofs.Tests.{not-both}
 use Rattle.plans.proofs.Table.{tidy}
 use Rattle.plans.proofs.Cases.{Tasking}
 use Rattle.plans.proofs.Cases.Tasking.{unread, round, long, goes}
 use Rattle.claims.specs.Rule.{Rule, Decides}
-use Rattle.claims.specs.Record.{readerRule, recordRules, Faulty, OfReading}
+use Rattle.claims.specs.Record.{readerRule, loopRule, recordRules, NamesLoop, Faulty, OfReading}
 use Rattle.claims.proofs.Rule.{Single, Singles, single, gives, not-given}
 
 -- the outcome that a rule of the reader's gives
@@ -61,20 +68,13 @@ fault-of (follow e h) = (λ q. absurd (omega arith), λ q. absurd (omega arith))
 -- what is promised of the reader
 pub reading : OfReading
 reading = record {
-  refuses = λ bytes number place. (λ e. refused-rule bytes (refusal number place) e, outcome-of);
-  long = λ bytes place. (λ e. fault-of (refused-rule bytes (refusal 2 place) e) .0 refl, λ f. outcome-of (too-long (f .1) (f .2)));
-  padded = λ bytes place. (λ e. fault-of (refused-rule bytes (refusal 18 place) e) .1 refl, λ f. outcome-of (padded (f .1) (f .2)));
+  refuses = λ bytes number place. (λ e. refused-rule bytes (refusal number place) e .0, outcome-of);
+  long = λ bytes place. (λ e. fault-of (refused-rule bytes (refusal 2 place) e .0) .0 refl, λ f. outcome-of (too-long (f .1) (f .2)));
+  padded = λ bytes place. (λ e. fault-of (refused-rule bytes (refusal 18 place) e .0) .1 refl, λ f. outcome-of (padded (f .1) (f .2)));
   reads = λ bytes t. (read-spelt bytes t, spelt-read bytes);
   own = λ bytes number place f. let told = refused-told bytes (refusal number place) (outcome-of f) in (told .own, told .place);
   empty = refused-table;
 }
-
--- the reader gives one refusal
-pub reader-single : (bytes : List ℕ) → Single (readerRule bytes)
-reader-single bytes r s (k, p, f, e) (l, q, g, d) = let same = sym (outcome-of f) ∙ outcome-of g in let z : refusal k p ≡ refusal l q = cc in e ∙ z ∙ sym d
-
-pub record-singles : (bytes : List ℕ) → Singles (recordRules bytes)
-record-singles bytes = (reader-single bytes, (single _ _, (single _ _, tt)))
 
 -- a refusal's number is not 0
 pub unread-some : (bytes : List ℕ) (r : Refusal) → readingOf bytes .outcome ≡ Refused r → r .number ≡ 0 → ⊥
@@ -84,18 +84,61 @@ unread-some bytes r e z = let l = readers-low (r .number) (refused-told bytes r 
 read-clear : {bytes : List ℕ} → readingOf bytes .outcome ≡ Accepted → (r : Refusal) → readerRule bytes r → ⊥
 read-clear e r (k, p, f, d) = not-both (outcome-of f) e
 
--- no loop, by the test
-no-loop : (bytes : List ℕ) → readingOf bytes .outcome ≡ Accepted → loops (taskOf bytes .parents) (taskOf bytes .count) ≡ false → Loops (taskOf bytes .parents) (taskOf bytes .count) → ⊥
-no-loop bytes e l w = loops-no (taskOf bytes .parents) (taskOf bytes .count) (tidy (plannable (accepted-table bytes e))) l (w .0) (w .2)
+-- a table that was read, by the test: none of its nodes goes round, or the one that is named does, inside its ring
+module _ (bytes : List ℕ) (e : readingOf bytes .outcome ≡ Accepted) where
+  parents-tidy : Tidy (taskOf bytes .parents) (taskOf bytes .count)
+  parents-tidy = tidy (plannable (accepted-table bytes e))
+
+  no-loop : loops (taskOf bytes .parents) (taskOf bytes .count) ≡ false → (r : Refusal) → loopRule (taskOf bytes) r → ⊥
+  no-loop l r w = loops-no (taskOf bytes .parents) (taskOf bytes .count) parents-tidy l (w .0) (w .1 .here)
+
+  some-loop : loops (taskOf bytes .parents) (taskOf bytes .count) ≡ true → NamesLoop (taskOf bytes) (refused (loopIn (taskOf bytes)))
+  some-loop l =
+      let n = named-smallest parents-tidy l in
+      record { smallest = n; round = one-round parents-tidy (named (taskOf bytes .parents) (taskOf bytes .count)) (n .here) }
+
+-- 10, by the node that is named
+gives-loop : (t : TaskTable) {answer : Answer} → Smallest (t .parents) (loopIn t .place) → answer ≡ refused (loopIn t) → (r : Refusal) × loopRule t r × (answer ≡ refused r)
+gives-loop t s e = (loopIn t, (loopIn t .place, s, refl), e)
 
 -- a record's rules, with those after them, decide what its task comes to
 pub decided : {A : Type 0} {refuse : Refusal → A} {go : TaskTable → A} (answer : A → Answer) (told : (r : Refusal) → answer (refuse r) ≡ refused r)
     (bytes : List ℕ) (rest : List Rule) (value : ℕ → Type 0)
     → (readingOf bytes .outcome ≡ Accepted → Accepted-table (taskOf bytes) → Decides rest value (answer (go (taskOf bytes))))
     → {x : A} → Tasking refuse go bytes x → Decides (recordRules bytes ++ rest) value (answer x)
-decided answer told bytes rest value entry (unread r e) = inl (r, (r .number, r .place, refused-rule bytes r e, refl), told r)
-decided answer told bytes rest value entry (round e l) =
-    inr (read-clear e, inl (gives 10 (loops-yes (taskOf bytes .parents) (taskOf bytes .count) (tidy (plannable (accepted-table bytes e))) l) (told (refusal 10 0))))
-decided answer told bytes rest value entry (long e l h) = inr (read-clear e, inr (not-given (no-loop bytes e l), inl (gives 11 h (told (refusal 11 0)))))
+decided answer told bytes rest value entry (unread r e) = let w = refused-rule bytes r e in inl (r, (r .number, r .place, w .0, w .1), told r)
+decided answer told bytes rest value entry (round e l) = inr (read-clear e, inl (gives-loop (taskOf bytes) (some-loop bytes e l .smallest) (told (loopIn (taskOf bytes)))))
+decided answer told bytes rest value entry (long e l h) = inr (read-clear e, inr (no-loop bytes e l, inl (gives 11 h (told (refusal 11 0)))))
 decided answer told bytes rest value entry (goes e ok) =
-    inr (read-clear e, inr (not-given (no-loop bytes e (ok .free)), inr (not-given (λ h. let f = ok .fits in omega arith), entry e ok)))
+    inr (read-clear e, inr (no-loop bytes e (ok .free), inr (not-given (λ h. let f = ok .fits in omega arith), entry e ok)))
+
+-- the reader gives one refusal
+reader-single : (bytes : List ℕ) → Single (readerRule bytes)
+reader-single bytes = record {
+  one = one;
+  bare = λ r p n. ap (λ (x : Refusal). x .ring) (p .3);
+}
+  where
+    one : (r s : Refusal) → readerRule bytes r → readerRule bytes s → r ≡ s
+    one r s (k, p, f, e) (l, q, g, d) = let same = sym (outcome-of f) ∙ outcome-of g in let z : refusal k p ≡ refusal l q = cc in e ∙ z ∙ sym d
+
+-- and so does 10: there is one smallest node
+one-smallest : {P : List ℕ} {v w : ℕ} → Smallest P v → Smallest P w → v ≡ w
+one-smallest {P} {v} {w} a b = one-least (λ (u : ℕ). Reaches P u u) v w (a .here) (a .before) (b .here) (b .before)
+
+loop-single : (t : TaskTable) → Single (loopRule t)
+loop-single t = record {
+  one = λ r s p q. p .2 ∙ ap (λ (v : ℕ). looped v (ring (t .parents) (t .count) v)) (one-smallest (p .1) (q .1)) ∙ sym (q .2);
+  bare = λ r p n. absurd (n (ap (λ (x : Refusal). x .number) (p .2)));
+}
+
+pub record-singles : (bytes : List ℕ) → Singles (recordRules bytes)
+record-singles bytes = (reader-single bytes, (loop-single (taskOf bytes), (single _ _, tt)))
+
+-- an answer with refusal 10 is that of a task that goes round
+pub names-loop : {A : Type 0} {refuse : Refusal → A} {go : TaskTable → A} (answer : A → Answer) (told : (r : Refusal) → answer (refuse r) ≡ refused r)
+    (bytes : List ℕ) → (answer (go (taskOf bytes)) .refusal ≡ 10 → ⊥) → {x : A} → Tasking refuse go bytes x → answer x .refusal ≡ 10 → NamesLoop (taskOf bytes) (answer x)
+names-loop answer told bytes other (unread r e) z = absurd (readers-not-loop (r .number) (refused-told bytes r e .own) (rw (told r) at z))
+names-loop answer told bytes other (round e l) z = rw (told (loopIn (taskOf bytes))) (some-loop bytes e l)
+names-loop answer told bytes other (long e l h) z = absurd (eqb-false longPath loop refl (rw (told (refusal longPath 0)) at z))
+names-loop answer told bytes other (goes e ok) z = absurd (other z)

@@ -13,9 +13,10 @@ use Rattle.claims.specs.Rule.{Rule, rule, Decides, OnlyWhen}
 abbrev pub OneValue : (ℕ → Type 0) → Type 0
 OneValue value = (v w : ℕ) → value v → value w → v ≡ w
 
--- each rule gives one refusal at most
-abbrev pub Single : Rule → Type 0
-Single given = (r s : Refusal) → given r → given s → r ≡ s
+-- each rule gives one refusal at most, with a set of nodes beside 10 alone
+pub record Single (given : Rule) : Type 0 where
+  pub one : (r s : Refusal) → given r → given s → r ≡ s
+  pub bare : (r : Refusal) → given r → (r .number ≡ 10 → ⊥) → r .ring ≡ 0
 
 abbrev pub Singles : List Rule → Type 0
 Singles [] = Unit {0}
@@ -23,12 +24,12 @@ Singles (first ∷ later) = Single first × Singles later
 
 -- a line of the table does
 pub single : (number : ℕ) (given : Type 0) → Single (rule number given)
-single number given r s p q = p .1 ∙ sym (q .1)
+single number given = record { one = λ r s p q. p .1 ∙ sym (q .1); bare = λ r p n. ap (λ (x : Refusal). x .ring) (p .1) }
 
 -- the rules decide one answer
 one-decision : (rules : List Rule) {value : ℕ → Type 0} → Singles rules → OneValue value → (a b : Answer) → Decides rules value a → Decides rules value b → a ≡ b
 one-decision [] s alone a b (v, p, e) (w, q, f) = e ∙ ap accepted (alone v w p q) ∙ sym f
-one-decision (first ∷ later) s alone a b (inl (r, p, e)) (inl (t, q, f)) = e ∙ ap refused (s .0 r t p q) ∙ sym f
+one-decision (first ∷ later) s alone a b (inl (r, p, e)) (inl (t, q, f)) = e ∙ ap refused (s .0 .one r t p q) ∙ sym f
 one-decision (first ∷ later) s alone a b (inl (r, p, e)) (inr (n, d)) = absurd (n r p)
 one-decision (first ∷ later) s alone a b (inr (n, d)) (inl (r, p, e)) = absurd (n r p)
 one-decision (first ∷ later) s alone a b (inr (n, d)) (inr (m, c)) = one-decision later (s .1) alone a b d c
@@ -36,6 +37,12 @@ one-decision (first ∷ later) s alone a b (inr (n, d)) (inr (m, c)) = one-decis
 -- so an answer that they decide is the only one
 pub only-when : (rules : List Rule) (value : ℕ → Type 0) {answer : Answer} → Singles rules → OneValue value → Decides rules value answer → OnlyWhen rules value answer
 only-when rules value {answer} s alone d = λ a. (λ e. one-decision rules s alone a answer e d, λ e. rw e d)
+
+-- and shows a set beside 10 alone
+pub bare-answer : (rules : List Rule) (value : ℕ → Type 0) (answer : Answer) → Singles rules → Decides rules value answer → (answer .refusal ≡ 10 → ⊥) → answer .ring ≡ 0
+bare-answer [] value answer s (v, p, e) n = rw e
+bare-answer (first ∷ later) value answer s (inl (r, p, e)) n = rw e (s .0 .bare r p (λ z. n (rw e z)))
+bare-answer (first ∷ later) value answer s (inr (m, d)) n = bare-answer later value answer (s .1) d n
 
 -- a line of the table that holds, and one that doesn't
 pub gives : (number : ℕ) {given : Type 0} {answer : Answer} → given → answer ≡ refused (refusal number 0) → (r : Refusal) × rule number given r × (answer ≡ refused r)

@@ -20,7 +20,7 @@ use Rattle.planner.specs.Calls.{withdrawCall}
 use Rattle.claims.specs.Rule.{Decides, IsAccepted}
 use Rattle.claims.specs.Board.{HasId, Lowest}
 use Rattle.claims.specs.Withdraw.{withdrawRules, OfWithdrawing}
-use Rattle.claims.proofs.Rule.{single, only-when, gives, not-given}
+use Rattle.claims.proofs.Rule.{single, gives, not-given}
 use Rattle.claims.proofs.Promise.{promised}
 use Rattle.claims.proofs.Board.{one-lowest, some-id, no-id, lowest-id}
 
@@ -57,6 +57,6 @@ module _ (rows : List Row) (id : ℕ) where
 -- the promise
 pub of-withdrawing : OfWithdrawing
 of-withdrawing rows id = promised (withdrawCall rows id)
-    (only-when (withdrawRules rows id) (Lowest (HasId rows id)) (single _ _, (single _ _, tt)) (one-lowest (HasId rows id)) (decides rows id))
+    (withdrawRules rows id) (Lowest (HasId rows id)) (single _ _, (single _ _, tt)) (one-lowest (HasId rows id)) (decides rows id)
     (withdrawn-refused rows id)
     (withdraw-written rows id)

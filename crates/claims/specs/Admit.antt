@@ -1,4 +1,5 @@
 -- All that is promised of admitting (`planner_admit`).
+use mathlib.Core.Path.{_≡_}
 use mathlib.Core.List.{List, [], _∷_, _++_}
 use Prim.Native.Nat.{ℕ, _<_}
 use lib.ListN.{length, set}
@@ -11,7 +12,7 @@ use Rattle.planner.specs.Calls.{Lent}
 use Rattle.planner.specs.Allows.{AdmitAllows}
 use Rattle.claims.specs.Rule.{Rule, rule, IsAccepted}
 use Rattle.claims.specs.Promise.{Promise}
-use Rattle.claims.specs.Record.{recordRules}
+use Rattle.claims.specs.Record.{recordRules, NamesLoop}
 use Rattle.claims.specs.Plan.{withPlan, GoodPlan}
 use Rattle.claims.specs.Board.{HasId, IsFree, SomeRow, Lowest}
 
@@ -38,5 +39,7 @@ admitted bytes words rows row = record { words = withPlan (taskOf bytes) words; 
 pub record OfAdmitting : Type 0 where
   pub call : (bytes words : List ℕ) (rows : List Row) →
       Promise (AdmitAllows bytes words rows) (record { words = words; rows = rows }) (admitRules bytes words rows) (Lowest (IsFree rows)) (admitted bytes words rows)
+  -- refusal 10 tells where the task goes round
+  pub loop : (bytes words : List ℕ) (rows : List Row) (a : After Lent) → AdmitAllows bytes words rows a → a .answer .refusal ≡ 10 → NamesLoop (taskOf bytes) (a .answer)
   -- demand 3
   pub plan : (bytes words : List ℕ) (rows : List Row) (a : After Lent) → AdmitAllows bytes words rows a → IsAccepted (a .answer) → GoodPlan (taskOf bytes)

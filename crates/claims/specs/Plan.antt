@@ -16,7 +16,7 @@ use Rattle.boards.specs.Fractions.{Fraction, exactDensity}
 use Rattle.planner.specs.Allows.{PlanAllows}
 use Rattle.claims.specs.Rule.{Rule, rule, IsAccepted}
 use Rattle.claims.specs.Promise.{Promise}
-use Rattle.claims.specs.Record.{recordRules}
+use Rattle.claims.specs.Record.{recordRules, NamesLoop}
 
 -- "Planning checks 16, then" the reader's refusals "as met, then 10, 11"; 16 is "the lent plan has fewer than 387 words"
 abbrev pub planRules : (bytes words : List ℕ) → List Rule
@@ -53,5 +53,7 @@ pub record GoodPlan (t : TaskTable) : Type 0 where
 -- the promises
 pub record OfPlanning : Type 0 where
   pub call : (bytes words : List ℕ) → Promise (PlanAllows bytes words) words (planRules bytes words) (planValue bytes) (λ _. withPlan (taskOf bytes) words)
+  -- refusal 10 tells where the task goes round
+  pub loop : (bytes words : List ℕ) (a : After (List ℕ)) → PlanAllows bytes words a → a .answer .refusal ≡ 10 → NamesLoop (taskOf bytes) (a .answer)
   -- demand 3
   pub plan : (bytes words : List ℕ) (a : After (List ℕ)) → PlanAllows bytes words a → IsAccepted (a .answer) → GoodPlan (taskOf bytes)

@@ -11,6 +11,8 @@ pub record Promise {Lent : Type 0} (allows : After Lent → Type 0) (lent : Lent
   pub one-answer : (a b : After Lent) → allows a → allows b → a ≡ b
   -- demand 2: each refusal only on its rule, in document 01's order; else the value that is due
   pub only-when : (a : After Lent) → allows a → OnlyWhen rules value (a .answer)
+  -- a set of nodes stands beside refusal 10 alone: "all other answers show the empty set"
+  pub empty-set : (a : After Lent) → allows a → (a .answer .refusal ≡ 10 → ⊥) → a .answer .ring ≡ 0
   -- demand 1: "A refusal returns its number and place ..; plan words and board rows stay untouched"
   pub untouched : (a : After Lent) → allows a → IsRefused (a .answer) → a .lent ≡ lent
   -- demand 2: what an accepted call writes

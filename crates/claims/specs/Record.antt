@@ -7,7 +7,8 @@ use Prim.Native.Nat.{ℕ, _≤_, _<_}
 use lib.ListN.{length, drop}
 use Rattle.refusals.specs.declared.Refusal.{Refusal}
 use Rattle.refusals.specs.declared.Outcome.the-variants.{Refused}
-use Rattle.refusals.specs.Refusal.{refusal}
+use Rattle.refusals.specs.declared.Answer.{Answer}
+use Rattle.refusals.specs.Refusal.{refusal, looped}
 use Rattle.refusals.specs.Readers.{isReaders}
 use Rattle.tables.specs.declared.TaskTable.{TaskTable}
 use Rattle.tables.specs.Table.{emptyTable}
@@ -17,7 +18,8 @@ use Rattle.numbers.specs.Number.{recordMore}
 use Rattle.numbers.specs.Form.{Long, Padded}
 use Rattle.records.specs.Expected.{Due, Expects, Refuses, Spells}
 use Rattle.records.specs.Expected.Next.{number}
-use Rattle.ways.specs.Reaches.{Loops}
+use Rattle.rings.specs.Ring.{ring}
+use Rattle.rings.specs.Round.{Smallest, Round}
 use Rattle.plans.specs.Diagram.{path}
 use Rattle.plans.specs.Calls.{taskOf}
 use Rattle.claims.specs.Rule.{Rule, rule}
@@ -26,13 +28,22 @@ use Rattle.claims.specs.Rule.{Rule, rule}
 abbrev pub readerRule : List ℕ → Rule
 readerRule bytes r = (number : ℕ) × (place : ℕ) × Refuses bytes number place × (r ≡ refusal number place)
 
--- the reader's; 10, "some node is reached from itself by one or more parent edges"; 11, "the path is longer than the period"
+-- 10, "some node is reached from itself": its place is the smallest such node; which of the loops through it stands beside it, `ring` says
+abbrev pub loopRule : TaskTable → Rule
+loopRule t r = (node : ℕ) × Smallest (t .parents) node × (r ≡ looped node (ring (t .parents) (t .count) node))
+
+-- the reader's; 10; 11, "the path is longer than the period"
 abbrev pub recordRules : List ℕ → List Rule
 recordRules bytes =
     readerRule bytes
-    ∷ rule 10 (Loops (taskOf bytes .parents) (taskOf bytes .count))
+    ∷ loopRule (taskOf bytes)
     ∷ rule 11 (taskOf bytes .period < path (taskOf bytes))
     ∷ []
+
+-- an answer with refusal 10 names "the smallest node that is reached from itself", and shows "a loop through it", whichever is chosen
+pub record NamesLoop (t : TaskTable) (answer : Answer) : Type 0 where
+  pub smallest : Smallest (t .parents) (answer .place)
+  pub round : Round (t .parents) (answer .place) (answer .ring)
 
 -- "number's first byte": a number is expected at this place, and its bytes from there on have the fault
 abbrev pub Faulty : (fault : List ℕ → Type 0) → (bytes : List ℕ) (place : ℕ) → Type 0

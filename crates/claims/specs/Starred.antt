@@ -4,7 +4,7 @@ use mathlib.Core.List.{List, [], _∷_, _++_}
 use Prim.Native.Nat.{ℕ, zero, suc}
 use lib.ListN.{length, drop, replicate}
 use Rattle.refusals.specs.declared.Answer.{Answer}
-use Rattle.refusals.specs.Refusal.{refusal}
+use Rattle.refusals.specs.Refusal.{refusal, looped}
 use Rattle.refusals.specs.Answer.{accepted, refused}
 use Rattle.plain.specs.Pick.{pick}
 use Rattle.tables.specs.declared.TaskTable.{TaskTable}
@@ -39,6 +39,8 @@ pub data Entry : Type 0 where
   prints : (bytes text : List ℕ) → Entry
   -- planning refuses the record
   refuses : (bytes : List ℕ) (number place : ℕ) → Entry
+  -- planning refuses the record by 10, with this node and this set of nodes
+  goes-round : (bytes : List ℕ) (node ring : ℕ) → Entry
   -- admitted on the empty board, the record's task has this row
   fills : (bytes : List ℕ) (row : Row) → Entry
   -- after these calls, asking for so many cores gets this answer
@@ -58,6 +60,7 @@ Comes (plans bytes words) = planCall bytes blank ≡ record { answer = accepted 
 Comes (cuts bytes kinds) = kindsTo (segmentCount (taskOf bytes)) (taskOf bytes) ≡ kinds
 Comes (prints bytes text) = sheetOf bytes ≡ text
 Comes (refuses bytes number place) = planCall bytes blank ≡ record { answer = refused (refusal number place); lent = blank }
+Comes (goes-round bytes node ring) = planCall bytes blank ≡ record { answer = refused (looped node ring); lent = blank }
 Comes (fills bytes row) = rowAt (boardAfter (admitting bytes ∷ [])) 0 ≡ row
 Comes (answers calls cores answer) = answerTo (ask cores) (boardAfter calls) ≡ answer
 
@@ -101,7 +104,7 @@ ownParent = 0x01 ∷ 0x05 ∷ 0x09 ∷ 0x01 ∷ 0x01 ∷ 0x01 ∷ 0x00 ∷ []
 abbrev pub eachOther : List ℕ
 eachOther = 0x01 ∷ 0x06 ∷ 0x09 ∷ 0x02 ∷ 0x01 ∷ 0x01 ∷ 0x01 ∷ 0x01 ∷ 0x01 ∷ 0x00 ∷ []
 
--- the starred tables, in document 01's order; 80 00 with the number that request a gives it
+-- the starred tables, in document 01's order; 80 00 with the number that request a gives it, loops with their nodes as request m has them
 unfoldable pub starred : List Entry
 starred =
     plans oneNode (5 ∷ 1 ∷ 1 ∷ 1 ∷ 5 ∷ 25 ∷ 0 ∷ 25 ∷ 1000000 ∷ [])
@@ -121,8 +124,8 @@ starred =
     ∷ fills listing (record { id = 3; nodes = 3; sum = 1333334; largest = 500000 })
     ∷ answers (admitting listing ∷ []) 2 (accepted 1)
     ∷ answers (admitting listing ∷ []) 1 (accepted 0)
-    ∷ refuses ownParent 10 0
-    ∷ refuses eachOther 10 0
+    ∷ goes-round ownParent 0 0b1
+    ∷ goes-round eachOther 0 0b11
     ∷ refuses [] 1 0
     ∷ refuses (0x80 ∷ 0x00 ∷ []) 18 0
     ∷ refuses (0x01 ∷ 0x07 ∷ 0x80 ∷ 0x80 ∷ 0x80 ∷ 0x08 ∷ []) 5 2

@@ -1,7 +1,7 @@
 -- Lists by index: a list made by a rule reads back as the rule, because both go by the same index; an array that a loop fills from the
 -- front reads as the rule below the loop's counter and as before from there on.
 use mathlib.Core.Path.{_≡_, refl, sym, ap, _∙_}
-use mathlib.Core.Logic.{_⊎_, inl, inr}
+use mathlib.Core.Logic.{_⊎_, inl, inr, ⊎-elim}
 use mathlib.Core.List.{List}
 use Prim.Native.Nat.{ℕ, zero, suc, _+_, _-_, _≤_, _<_}
 use native.Mathlib.Nat.{le-of-suc-le-suc, not-suc-le-zero}
@@ -15,6 +15,13 @@ use Rattle.plain.specs.At.{at, tab}
 -- one of two numbers is less, or not
 pub lt-or-ge : (a b : ℕ) → (a < b) ⊎ (b ≤ a)
 lt-or-ge a b = elim (decLt a b) [ yes h ↦ inl h | no h ↦ inr (omega arith) ]
+
+-- two numbers of which something holds, and of no smaller one, are one
+pub one-least : (Q : ℕ → Type 0) (v w : ℕ) → Q v → ((u : ℕ) → u < v → Q u → ⊥) → Q w → ((u : ℕ) → u < w → Q u → ⊥) → v ≡ w
+one-least Q v w here before there earlier = ⊎-elim
+    (λ (l : v < w). absurd (earlier v l here))
+    (λ (h : w ≤ v). ⊎-elim (λ (l : w < v). absurd (before w l there)) (λ (g : v ≤ w). omega arith) (lt-or-ge w v))
+    (lt-or-ge v w)
 
 -- the part of s from a on, as a callee is handed it
 pub part-from : {A : Type 0} (a : ℕ) (s : List A) → take (length s - a) (drop a s) ≡ drop a s

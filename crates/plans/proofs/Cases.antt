@@ -6,7 +6,7 @@ use Prim.Native.Nat.{ℕ, _<_}
 use lib.Dec.{ltb}
 use borrow.Author.Tests.{ltb-true, ltb-false}
 use Rattle.plain.proofs.Picks.{pick-case}
-use Rattle.refusals.specs.Numbers.{loop, longPath}
+use Rattle.refusals.specs.Numbers.{longPath}
 use Rattle.refusals.specs.declared.Refusal.{Refusal}
 use Rattle.refusals.specs.declared.Outcome.{Outcome}
 use Rattle.refusals.specs.declared.Outcome.the-variants as outcome
@@ -17,13 +17,13 @@ use Rattle.records.proofs.Answers.{accepted-table}
 use Rattle.ways.specs.Closure.{loops}
 use Rattle.plans.specs.Diagram.{path}
 use Rattle.plans.specs.Accepted.{Accepted}
-use Rattle.plans.specs.Calls.{onTable, taskOf, onTask}
+use Rattle.plans.specs.Calls.{loopIn, onTable, taskOf, onTask}
 
 module _ {A : Type 0} (refuse : Refusal → A) (go : TaskTable → A) (bytes : List ℕ) where
   -- a refusal of the reader; 10; 11; else the task goes on
   pub data Tasking : A → Type 0 where
     unread : (r : Refusal) → readingOf bytes .outcome ≡ outcome.Refused r → Tasking (refuse r)
-    round : readingOf bytes .outcome ≡ outcome.Accepted → loops (taskOf bytes .parents) (taskOf bytes .count) ≡ true → Tasking (refuse (refusal loop 0))
+    round : readingOf bytes .outcome ≡ outcome.Accepted → loops (taskOf bytes .parents) (taskOf bytes .count) ≡ true → Tasking (refuse (loopIn (taskOf bytes)))
     long : readingOf bytes .outcome ≡ outcome.Accepted → loops (taskOf bytes .parents) (taskOf bytes .count) ≡ false → taskOf bytes .period < path (taskOf bytes) → Tasking (refuse (refusal longPath 0))
     goes : readingOf bytes .outcome ≡ outcome.Accepted → Accepted (taskOf bytes) → Tasking (go (taskOf bytes))
 

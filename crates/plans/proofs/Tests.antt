@@ -8,7 +8,7 @@ use borrow.Author.Tests.{lt-ltb, le-ltb, ltb-false, eq-eqb, ne-eqb}
 use lib.Dec.{ltb}
 use lib.ListN.{length}
 use Rattle.plain.specs.Pick.{pick}
-use Rattle.refusals.specs.Numbers.{loop, longPath, fewWords}
+use Rattle.refusals.specs.Numbers.{longPath, fewWords}
 use Rattle.refusals.specs.declared.Refusal.{Refusal}
 use Rattle.refusals.specs.declared.Answer.{Answer}
 use Rattle.refusals.specs.declared.Outcome.{Outcome}
@@ -19,7 +19,7 @@ use Rattle.records.specs.Reading.{readingOf}
 use Rattle.ways.specs.Closure.{loops}
 use Rattle.plans.specs.Diagram.{path}
 use Rattle.plans.specs.Words.{wordsMax}
-use Rattle.plans.specs.Calls.{onTable, taskOf, onTask, unplanned, planned, planCall}
+use Rattle.plans.specs.Calls.{loopIn, onTable, taskOf, onTask, unplanned, planned, planCall}
 use Rattle.plans.specs.Inner.Drawn.{outcomeOf, tested}
 use Rattle.plans.specs.Inner.Table.{unlessLater, tablePlan}
 
@@ -29,7 +29,7 @@ not-both p q = let z : _≡_ {A = ℕ} 0 1 = cc in omega arith
 
 module _ {A : Type 0} (refuse : Refusal → A) (go : TaskTable → A) (t : TaskTable) where
   -- 10
-  pub on-loop : loops (t .parents) (t .count) ≡ true → onTable refuse go t ≡ refuse (refusal loop 0)
+  pub on-loop : loops (t .parents) (t .count) ≡ true → onTable refuse go t ≡ refuse (loopIn t)
   unfolding onTable
   on-loop e = rw e
 
@@ -48,8 +48,8 @@ module _ {A : Type 0} (refuse : Refusal → A) (go : TaskTable → A) (t : TaskT
   unfolding onTable
   table-refused {r} = by (loops (t .parents) (t .count)) (ltb (t .period) (path t))
     where
-      by : (b c : Bool) → pick b (Refused (refusal loop 0)) (pick c (Refused (refusal longPath 0)) Accepted) ≡ Refused r → pick b (refuse (refusal loop 0)) (pick c (refuse (refusal longPath 0)) (go t)) ≡ refuse r
-      by true c e = let same : r ≡ refusal loop 0 = cc in rw same
+      by : (b c : Bool) → pick b (Refused (loopIn t)) (pick c (Refused (refusal longPath 0)) Accepted) ≡ Refused r → pick b (refuse (loopIn t)) (pick c (refuse (refusal longPath 0)) (go t)) ≡ refuse r
+      by true c e = let same : r ≡ loopIn t = cc in rw same
       by false true e = let same : r ≡ refusal longPath 0 = cc in rw same
       by false false e = absurd (not-both e refl)
 
@@ -57,7 +57,7 @@ module _ {A : Type 0} (refuse : Refusal → A) (go : TaskTable → A) (t : TaskT
   unfolding onTable
   table-accepted = by (loops (t .parents) (t .count)) (ltb (t .period) (path t))
     where
-      by : (b c : Bool) → pick b (Refused (refusal loop 0)) (pick c (Refused (refusal longPath 0)) Accepted) ≡ Accepted → pick b (refuse (refusal loop 0)) (pick c (refuse (refusal longPath 0)) (go t)) ≡ go t
+      by : (b c : Bool) → pick b (Refused (loopIn t)) (pick c (Refused (refusal longPath 0)) Accepted) ≡ Accepted → pick b (refuse (loopIn t)) (pick c (refuse (refusal longPath 0)) (go t)) ≡ go t
       by true c e = absurd (not-both refl e)
       by false true e = absurd (not-both refl e)
       by false false e = refl
@@ -94,20 +94,20 @@ module _ (later : Answer) (words : List ℕ) (t : TaskTable) where
 module _ (t : TaskTable) (later : Answer) where
   -- fewer nodes done than there are tell the loop, and without one the path told is the table's
   pub tested-so : (done P : ℕ) → loops (t .parents) (t .count) ≡ ltb done (t .count) → (loops (t .parents) (t .count) ≡ false → P ≡ path t)
-      → tested (ltb done (t .count)) (ltb (t .period) P) later ≡ tested (loops (t .parents) (t .count)) (ltb (t .period) (path t)) later
-  tested-so done P told path-is = ap (λ (b : Bool). tested b (ltb (t .period) P) later) (sym told) ∙ by (loops (t .parents) (t .count)) refl
+      → tested (ltb done (t .count)) (loopIn t) (ltb (t .period) P) later ≡ tested (loops (t .parents) (t .count)) (loopIn t) (ltb (t .period) (path t)) later
+  tested-so done P told path-is = ap (λ (b : Bool). tested b (loopIn t) (ltb (t .period) P) later) (sym told) ∙ by (loops (t .parents) (t .count)) refl
     where
-      by : (b : Bool) → loops (t .parents) (t .count) ≡ b → tested b (ltb (t .period) P) later ≡ tested b (ltb (t .period) (path t)) later
+      by : (b : Bool) → loops (t .parents) (t .count) ≡ b → tested b (loopIn t) (ltb (t .period) P) later ≡ tested b (loopIn t) (ltb (t .period) (path t)) later
       by true e = refl
       by false e = rw (path-is e)
 
-  module _ {a : Answer} (is : a ≡ tested (loops (t .parents) (t .count)) (ltb (t .period) (path t)) later) where
+  module _ {a : Answer} (is : a ≡ tested (loops (t .parents) (t .count)) (loopIn t) (ltb (t .period) (path t)) later) where
     -- a refusal goes out, and the words stay as they were
     pub tested-out : (words : List ℕ) → (a .refusal ≡ 0 → ⊥) → record { answer = a; lent = words } ≡ tablePlan later words t
     unfolding onTable
     tested-out words n = by (loops (t .parents) (t .count)) (ltb (t .period) (path t)) is
       where
-        by : (b c : Bool) → a ≡ tested b c later → record { answer = a; lent = words } ≡ pick b (unplanned words (refusal loop 0)) (pick c (unplanned words (refusal longPath 0)) (unlessLater later words t))
+        by : (b c : Bool) → a ≡ tested b (loopIn t) c later → record { answer = a; lent = words } ≡ pick b (unplanned words (loopIn t)) (pick c (unplanned words (refusal longPath 0)) (unlessLater later words t))
         by true c e = rw e
         by false true e = rw e
         by false false e = rw e (sym (later-refuses later words t (λ z. n (ap (λ (x : Answer). x .refusal) e ∙ z))))
@@ -116,7 +116,7 @@ module _ (t : TaskTable) (later : Answer) where
     pub tested-in : a .refusal ≡ 0 → (loops (t .parents) (t .count) ≡ false) × (path t ≤ t .period) × (later .refusal ≡ 0)
     tested-in z = by (loops (t .parents) (t .count)) (ltb (t .period) (path t)) refl refl is
       where
-        by : (b c : Bool) → loops (t .parents) (t .count) ≡ b → ltb (t .period) (path t) ≡ c → a ≡ tested b c later → (loops (t .parents) (t .count) ≡ false) × (path t ≤ t .period) × (later .refusal ≡ 0)
+        by : (b c : Bool) → loops (t .parents) (t .count) ≡ b → ltb (t .period) (path t) ≡ c → a ≡ tested b (loopIn t) c later → (loops (t .parents) (t .count) ≡ false) × (path t ≤ t .period) × (later .refusal ≡ 0)
         by true c l h e = let n = ap (λ (x : Answer). x .refusal) e in absurd (omega arith)
         by false true l h e = let n = ap (λ (x : Answer). x .refusal) e in absurd (omega arith)
         by false false l h e = (l, ltb-false (t .period) (path t) h, sym (ap (λ (x : Answer). x .refusal) e) ∙ z)

@@ -4,7 +4,7 @@ use Prim.Native.Nat.{ℕ}
 use lib.Dec.{ltb}
 use lib.ListN.{length}
 use Rattle.plain.specs.Pick.{pick}
-use Rattle.refusals.specs.Numbers.{loop, longPath, fewWords}
+use Rattle.refusals.specs.Numbers.{longPath, fewWords}
 use Rattle.refusals.specs.declared.Refusal.{Refusal}
 use Rattle.refusals.specs.Refusal.{refusal, onOutcome}
 use Rattle.refusals.specs.Answer.{accepted, refused}
@@ -12,12 +12,17 @@ use Rattle.refusals.specs.After.{After}
 use Rattle.tables.specs.declared.TaskTable.{TaskTable}
 use Rattle.records.specs.Reading.{readingOf}
 use Rattle.ways.specs.Closure.{loops}
+use Rattle.rings.specs.Ring.{loopOf}
 use Rattle.plans.specs.Diagram.{path, segmentCount}
 use Rattle.plans.specs.Words.{wordCount, wordsMax, written}
 
+-- refusal 10 of a table, with "the smallest node that is reached from itself" and "a loop through it"
+abbrev pub loopIn : TaskTable → Refusal
+loopIn t = loopOf (t .parents) (t .count)
+
 -- 10 where "some node is reached from itself", 11 where "the path is longer than the period"; else `go`
 unfoldable pub onTable : {A : Type 0} → (Refusal → A) → (TaskTable → A) → TaskTable → A
-onTable refuse go t = pick (loops (t .parents) (t .count)) (refuse (refusal loop 0)) (pick (ltb (t .period) (path t)) (refuse (refusal longPath 0)) (go t))
+onTable refuse go t = pick (loops (t .parents) (t .count)) (refuse (loopIn t)) (pick (ltb (t .period) (path t)) (refuse (refusal longPath 0)) (go t))
 
 -- the table of a record's task: every rule after the reader's speaks of this one
 abbrev pub taskOf : List ℕ → TaskTable

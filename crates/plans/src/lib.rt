@@ -10,6 +10,9 @@ ghost use Prim.Native.Nat.{_+_, _*_, _≤_};
 ghost use lib.Dec.{ltb};
 ghost use lib.ListN.{length, drop};
 ghost use Rattle.tables.specs.Inner.Plannable.{Plannable};
+ghost use Rattle.ways.specs.Inner.Tidy.{Tidy};
+ghost use Rattle.ways.specs.Closure.{loops};
+ghost use Rattle.rings.specs.Ring.{loopOf};
 ghost use Rattle.plans.specs.Diagram.{segmentCount};
 ghost use Rattle.plans.specs.Words.{wordCount, wordsMax, frontWords, written};
 ghost use Rattle.plans.specs.Calls.{planCall};
@@ -19,13 +22,14 @@ ghost use Rattle.plans.specs.Inner.Table.{tablePlan};
 // The limit of specs/: the most words that a plan has.
 pub const WORDS_MAX: usize = 387;
 
-// The answer of the rules after the reader's: 10 where nodes were left when the diagram was run, 11 where its path is longer than the period,
-// else what the later rules say.
-fn tested(swept: Swept, n: usize, period: u64, later: Answer) -> Answer
-    ensures { λ r. ⌜ r ≡ tested (ltb (swept .done) n) (ltb period (swept .cut .time)) later ⌝ }
+// The answer of the rules after the reader's: 10 with its loop where nodes were left when the diagram was run, 11 where its path is longer than
+// the period, else what the later rules say.
+fn tested(parents: &[u64; 64], swept: Swept, n: usize, period: u64, later: Answer) -> Answer
+    requires { ⌜ (n ≤ 64) × Tidy (now parents) n × (loops (now parents) n ≡ ltb (swept .done) n) ⌝ }
+    ensures { λ r. ⌜ r ≡ tested (ltb (swept .done) n) (loopOf (now (parents .entry)) n) (ltb period (swept .cut .time)) later ⌝ }
 {
     if swept.done < n {
-        return Answer::refused(Refusal::of(Refusal::LOOP, 0));
+        return Answer::refused(rings::loop_of(parents, n));
     }
     if period < swept.cut.time {
         return Answer::refused(Refusal::of(Refusal::LONG_PATH, 0));
@@ -110,7 +114,7 @@ pub fn plan_table(words: &mut [u64], table: TaskTable, later: Answer) -> Plannin
         n,
     );
     let path = swept.cut.time;
-    let answer = tested(swept, n, period, later);
+    let answer = tested(&parents, swept, n, period, later);
     if answer.refusal != 0 {
         return Planning {
             answer,

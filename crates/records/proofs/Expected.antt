@@ -184,14 +184,18 @@ module _ (s : List ℕ) where
   comes : Comes
   comes = comes-from (length s) 0 (number edition) (omega arith) begin
 
+  -- by a rule of the reader's, with nothing beside its number and place
+  abbrev ByRule : Refusal → Type 0
+  ByRule r = Refuses s (r .number) (r .place) × (r ≡ refusal (r .number) (r .place))
+
   -- and so a refusal is by its rule, and a table that is read is the one that is spelt
-  pub refused-rule : (r : Refusal) → readingOf s .outcome ≡ outcome.Refused r → Refuses s (r .number) (r .place)
+  pub refused-rule : (r : Refusal) → readingOf s .outcome ≡ outcome.Refused r → ByRule r
   refused-rule r q = by comes
     where
-      by : Comes → Refuses s (r .number) (r .place)
+      by : Comes → ByRule r
       by (refuses {k} {place} f) =
           let e : outcome.Refused (refusal k place) ≡ outcome.Refused r = ap (λ (x : Reading). x .outcome) (sym (rule-refused f)) ∙ q in
-          let d : refusal k place ≡ r = cc in subst (λ (x : Refusal). Refuses s (x .number) (x .place)) d f
+          let d : refusal k place ≡ r = cc in subst ByRule d (f, refl)
       by (spells f) = clash (let e = ap (λ (x : Reading). x .outcome) (sym (spelt-read f)) ∙ q in cc)
 
   pub read-spelt : (t : TaskTable) → readingOf s ≡ tableRead t → Spells s t
@@ -225,4 +229,4 @@ rule-told (outside {due = d} e w o) = record { own = own-range d; place = reache
 rule-told (follow e h) = record { own = refl; place = reached-inside _ e }
 
 pub refused-told : (s : List ℕ) (r : Refusal) → readingOf s .outcome ≡ outcome.Refused r → Told (length s) r
-refused-told s r q = rule-told (refused-rule s r q)
+refused-told s r q = let w = refused-rule s r q in rw (w .1) (rule-told (w .0))

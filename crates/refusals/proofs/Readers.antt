@@ -1,12 +1,13 @@
--- The reader's own numbers are above 0, so that none of its refusals is told as an acceptance, and have at most two digits: a test that
--- computes over the whole list holds of each of its numbers.
+-- The reader's own numbers are above 0, so that none of its refusals is told as an acceptance, none is 10, and they have at most two digits: a
+-- test that computes over the whole list holds of each of its numbers.
 use mathlib.Core.Path.{_≡_, refl, ap, _∙_}
-use mathlib.Core.Bool.{Bool, true, false, _&&_, _||_}
+use mathlib.Core.Bool.{Bool, true, false, not, _&&_, _||_}
 use mathlib.Core.List.{List, [], _∷_}
 use Prim.Native.Nat.{ℕ, _≤_}
 use native.Mathlib.Omega.{arith}
 use borrow.Author.Tests.{eqb-true, leb-true}
 use lib.Dec.{eqb, leb}
+use Rattle.refusals.specs.Numbers.{loop}
 use Rattle.refusals.specs.Readers.{readers, isIn, isReaders}
 
 -- the test holds of every number of the list
@@ -28,6 +29,11 @@ each f (m ∷ ms) n a i = by (f m) (eqb n m) refl refl a i (each f ms n)
     by false e p q b j later = absurd (true-false b refl)
     by true true p q b j later = ap f (eqb-true n m q) ∙ p
     by true false p q b j later = later b j
+
+-- 10 is not among them
+pub readers-not-loop : (n : ℕ) → isReaders n ≡ true → n ≡ loop → ⊥
+unfolding every
+readers-not-loop n e q = true-false (each (λ m. not (eqb m loop)) readers n refl e) (rw q)
 
 -- the bounds
 pub readers-low : (n : ℕ) → isReaders n ≡ true → 1 ≤ n

@@ -1,13 +1,14 @@
-// Document 01's refusals: a number that says which rule was broken, and the place that it is told with.
+// Document 01's refusals: a number that says which rule was broken, the place that it is told with, and beside 10 the loop.
 ghost use mathlib.Core.Path.{_≡_};
-ghost use Rattle.refusals.specs.Refusal.{refusal};
+ghost use Rattle.refusals.specs.Refusal.{refusal, looped, refusalOf};
 ghost use Rattle.refusals.specs.Answer.{accepted, refused, answerOf};
 ghost use Rattle.refusals.specs.Numbers.{ended, tooLong, badEdition, badId, badPeriod, badCount, badExecution, badParent, bytesFollow, loop, longPath, idStands, boardFull, notStanding, badCores, fewWords, unsoundBoard, notShortest};
 
-// A number of the table and a place: a byte of the input, or 0.
+// A number of the table; a place: a byte of the input, for 10 a node, else 0; for 10 the nodes of a loop, else none.
 pub struct Refusal {
     pub number: u64,
     pub place: usize,
+    pub ring: u64,
 }
 
 impl Refusal {
@@ -50,7 +51,34 @@ impl Refusal {
     pub fn of(number: u64, place: usize) -> Self
         ensures { λ r. ⌜ r ≡ refusal number place ⌝ }
     {
-        Self { number, place }
+        let ring: u64 = 0;
+        Self {
+            number,
+            place,
+            ring,
+        }
+    }
+
+    // Refusal 10: the node that is named, and its loop.
+    pub fn looped(node: usize, ring: u64) -> Self
+        ensures { λ r. ⌜ r ≡ looped node ring ⌝ }
+    {
+        Self {
+            number: Refusal::LOOP,
+            place: node,
+            ring,
+        }
+    }
+
+    // The refusal that an answer tells.
+    pub fn told_by(answer: Answer) -> Self
+        ensures { λ r. ⌜ r ≡ refusalOf answer ⌝ }
+    {
+        Self {
+            number: answer.refusal,
+            place: answer.place as usize,
+            ring: answer.ring,
+        }
     }
 }
 
@@ -60,12 +88,13 @@ pub enum Outcome {
     Refused(Refusal),
 }
 
-// What a public call answers: refusal 0 is acceptance, and then value is what the call returns; otherwise place is the refusal's.
+// What a public call answers: refusal 0 is acceptance, and then value is what the call returns; otherwise place and ring are the refusal's.
 #[repr(C)]
 pub struct Answer {
     pub refusal: u64,
     pub place: u64,
     pub value: u64,
+    pub ring: u64,
 }
 
 impl Answer {
@@ -76,6 +105,7 @@ impl Answer {
             refusal: 0,
             place: 0,
             value,
+            ring: 0,
         }
     }
 
@@ -86,6 +116,7 @@ impl Answer {
             refusal: refusal.number,
             place: refusal.place as u64,
             value: 0,
+            ring: refusal.ring,
         }
     }
 }

@@ -178,6 +178,13 @@ mem-or k s = elim (ℕ-discrete (bit k s) 1) [
 pub not-mem : {x : ℕ} → x ≡ 0 → x ≡ 1 → ⊥
 not-mem a b = omega arith
 
+-- the members of `a & b` are those of both
+pub mem-and : (k a b : ℕ) → Member k (bitAnd a b) → Member k a × Member k b
+mem-and k a b m = let e = bit-and k a b in let x = bit-le k a in let y = bit-le k b in (omega arith, omega arith)
+
+pub and-mem : (k a b : ℕ) → Member k a → Member k b → Member k (bitAnd a b)
+and-mem k a b x y = let e = bit-and k a b in omega arith
+
 pub mem-or-l : (k a b : ℕ) → Member k a → Member k (bitOr a b)
 mem-or-l k a b m = let x = bit-or k a b in let y = bit-le k b in omega arith
 

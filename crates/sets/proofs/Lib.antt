@@ -4,4 +4,5 @@ pub mod Greatest
 pub mod Walks
 pub mod Rule
 pub mod Words
+pub mod Without
 mod Runs

@@ -18,12 +18,13 @@ missing a s k l h m =
     let y = bit-le k s in
     (omega arith, omega arith)
 
+-- and the other way round
+pub missed : (a s k : ℕ) → k < 64 → s < 2 ^ 64 → Member k a → bit k s ≡ 0 → Member k (bitAnd a (2 ^ 64 - 1 - s))
+missed a s k l h m z = let e = bit-and k a (2 ^ 64 - 1 - s) in let f = bit-not 64 k s l h in omega arith
+
 -- none
 pub none-missing : (a s : ℕ) → ((k : ℕ) → Member k a → k < 64) → s < 2 ^ 64 → bitAnd a (2 ^ 64 - 1 - s) ≡ 0 → (k : ℕ) → Member k a → Member k s
-none-missing a s g h z k m = ⊎-elim (λ (x : Member k s). x) (λ (o : bit k s ≡ 0). absurd (lacks o)) (mem-or k s)
-  where
-    lacks : bit k s ≡ 0 → ⊥
-    lacks o = not-mem (ap (bit k) z ∙ bit-zero k) (let e = bit-and k a (2 ^ 64 - 1 - s) in let f = bit-not 64 k s (g k m) h in omega arith)
+none-missing a s g h z k m = ⊎-elim (λ (x : Member k s). x) (λ (o : bit k s ≡ 0). absurd (not-mem (ap (bit k) z ∙ bit-zero k) (missed a s k (g k m) h m o))) (mem-or k s)
 
 -- all nodes below n
 pub all-word : (n : ℕ) → setOf n (λ k. 1) + 1 ≡ 2 ^ n

@@ -2,4 +2,5 @@ pub mod Member
 pub mod Size
 pub mod Greatest
 pub mod Rule
+pub mod Without
 pub mod Inner

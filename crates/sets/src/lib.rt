@@ -2,6 +2,7 @@
 ghost use mathlib.Core.Path.{_≡_};
 ghost use Prim.Native.Nat.{_≤_, _<_};
 ghost use Rattle.sets.specs.Member.{isMember};
+ghost use Rattle.sets.specs.Without.{withoutMember};
 ghost use Rattle.sets.specs.Inner.Put.{withMember};
 ghost use Rattle.sets.specs.Size.{size};
 ghost use Rattle.sets.specs.Rule.{setOf};
@@ -21,6 +22,14 @@ pub fn with_member(s: u64, k: usize) -> u64
     ensures { λ r. ⌜ r ≡ withMember k s ⌝ }
 {
     s | (1u64 << k)
+}
+
+// s with k left out.
+pub fn without_member(s: u64, k: usize) -> u64
+    requires { ⌜ k < 64 ⌝ }
+    ensures { λ r. ⌜ r ≡ withoutMember k s ⌝ }
+{
+    s & !(1u64 << k)
 }
 
 // The number of members.

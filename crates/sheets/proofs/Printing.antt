@@ -9,7 +9,7 @@ use lib.ListN.{length, drop, length-drop}
 use Rattle.refusals.specs.declared.Answer.{Answer}
 use Rattle.refusals.specs.declared.Outcome.{Outcome}
 use Rattle.refusals.specs.declared.Outcome.the-variants as outcome
-use Rattle.refusals.specs.Refusal.{refusal}
+use Rattle.refusals.specs.Refusal.{refusalOf}
 use Rattle.tables.specs.declared.TaskTable.{TaskTable}
 use Rattle.segments.proofs.Segments.{segments-le}
 use Rattle.plans.specs.Diagram.{finish}
@@ -49,10 +49,10 @@ pub part-room : (w : List ℕ) (from n : ℕ) → from + 3 * n ≤ length w → 
 part-room w from n h = rw length-drop (omega arith)
 
 -- a table whose planning is refused has the line of that refusal
-pub refused-line : (words : List ℕ) (t : TaskTable) {a : Answer} → a ≡ onTable (unplanned words) (planned words) t .answer → (a .refusal ≡ 0 → ⊥) → refusedLine (refusal (a .refusal) (a .place)) ≡ onTable refusedLine tableSheet t
+pub refused-line : (words : List ℕ) (t : TaskTable) {a : Answer} → a ≡ onTable (unplanned words) (planned words) t .answer → (a .refusal ≡ 0 → ⊥) → refusedLine (refusalOf a) ≡ onTable refusedLine tableSheet t
 refused-line words t {a} answered n = go (outcomeOf t) refl
   where
-    go : (o : Outcome) → outcomeOf t ≡ o → refusedLine (refusal (a .refusal) (a .place)) ≡ onTable refusedLine tableSheet t
+    go : (o : Outcome) → outcomeOf t ≡ o → refusedLine (refusalOf a) ≡ onTable refusedLine tableSheet t
     go outcome.Accepted e = absurd (n (rw (answered, table-accepted (unplanned words) (planned words) t e)))
     go (outcome.Refused r) e = rw (answered, table-refused (unplanned words) (planned words) t e) (sym (table-refused refusedLine tableSheet t e))
 

@@ -62,7 +62,7 @@ fn put_table(out: &mut [u8], table: TaskTable) -> usize
     let planning = plans::plan_table(&mut words, table, Answer::accepted(0));
     let answer = planning.answer;
     if answer.refusal != 0 {
-        return put_refusal(out, Refusal::of(answer.refusal, answer.place as usize));
+        return put_refusal(out, Refusal::told_by(answer));
     }
     let head = Head {
         id: table.id,

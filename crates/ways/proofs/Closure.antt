@@ -19,7 +19,7 @@ use Rattle.sets.proofs.Sizes.{size-less, size-lt}
 use Rattle.sets.proofs.Rule.{bit-set, bit-past}
 use Rattle.ways.specs.Reaches.{Reaches, edge, more, Loops}
 use Rattle.ways.specs.Inner.Tidy.{Tidy}
-use Rattle.ways.specs.Closure.{union, through, stage, stages, reach, some, loops}
+use Rattle.ways.specs.Closure.{union, through, stage, stages, reach, some, goesRound, loops}
 use Rattle.ways.proofs.Reaches.{trans, parent-lt, reached-lt, from-lt}
 
 module _ (n a b : ℕ) where
@@ -184,7 +184,7 @@ some-yes (suc n) f e = go (some n f) (some-yes n f) e
     go true ih e = let w = ih refl in (w .0, omega arith, w .2)
     go false ih e = (n, le-refl (suc n), e)
 
-some-in : (n : ℕ) (f : ℕ → Bool) (v : ℕ) → v < n → f v ≡ true → some n f ≡ true
+pub some-in : (n : ℕ) (f : ℕ → Bool) (v : ℕ) → v < n → f v ≡ true → some n f ≡ true
 unfolding some
 some-in zero f v h e = absurd (not-suc-le-zero h)
 some-in (suc n) f v h e = ⊎-elim
@@ -192,23 +192,35 @@ some-in (suc n) f v h e = ⊎-elim
     (λ (l : v < n). ap (λ (b : Bool). b || f n) (some-in n f v l e))
     (eq-or-lt-of-le (le-of-suc-le-suc h))
 
+-- ---- one node, by the test and by the relation
+module _ {P : List ℕ} {n v : ℕ} (ok : Tidy P n) where
+  pub round-yes : goesRound P n v ≡ true → Reaches P v v
+  round-yes e = mem-reach P n ok v v (has-in v (at (reach P n) v) e)
+
+  pub round-true : Reaches P v v → goesRound P n v ≡ true
+  round-true w = eq-eqb (bit v (at (reach P n) v)) 1 (reach-mem P n ok w)
+
+  pub round-no : goesRound P n v ≡ false → Reaches P v v → ⊥
+  round-no e w = false≢true (sym e ∙ round-true w)
+
+  pub round-false : (Reaches P v v → ⊥) → goesRound P n v ≡ false
+  round-false none = go (goesRound P n v) refl
+    where
+      go : (b : Bool) → goesRound P n v ≡ b → b ≡ false
+      go true e = absurd (none (round-yes e))
+      go false e = refl
+
 -- ---- refusal 10 by the test and by the relation
 module _ (P : List ℕ) (n : ℕ) (ok : Tidy P n) where
-  -- v is in its own row
-  abbrev own : ℕ → Bool
-  own v = isMember v (at (reach P n) v)
-
   -- the test holds: some node reaches itself
   pub loops-yes : loops P n ≡ true → Loops P n
   unfolding loops
-  loops-yes e =
-      let w = some-yes n own e in
-      (w .0, w .1, mem-reach P n ok (w .0) (w .0) (has-in (w .0) (at (reach P n) (w .0)) (w .2)))
+  loops-yes e = let w = some-yes n (goesRound P n) e in (w .0, w .1, round-yes ok (w .2))
 
   -- and the other way round
   pub loops-true : Loops P n → loops P n ≡ true
   unfolding loops
-  loops-true w = some-in n own (w .0) (w .1) (eq-eqb (bit (w .0) (at (reach P n) (w .0))) 1 (reach-mem P n ok (w .2)))
+  loops-true w = some-in n (goesRound P n) (w .0) (w .1) (round-true ok (w .2))
 
   -- the test fails: none does
   pub loops-no : loops P n ≡ false → (v : ℕ) → Reaches P v v → ⊥

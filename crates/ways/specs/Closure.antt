@@ -33,6 +33,10 @@ unfoldable pub some : ℕ → (ℕ → Bool) → Bool
 some zero f = false
 some (suc n) f = some n f || f n
 
--- "some node is reached from itself by one or more parent edges": some node below n is in its own row
+-- whether v is reached from itself: v is in its own row
+abbrev pub goesRound : List ℕ → (n v : ℕ) → Bool
+goesRound P n v = isMember v (at (reach P n) v)
+
+-- "some node is reached from itself by one or more parent edges"
 unfoldable pub loops : List ℕ → ℕ → Bool
-loops P n = some n (λ v. isMember v (at (reach P n) v))
+loops P n = some n (goesRound P n)

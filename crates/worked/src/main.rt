@@ -42,11 +42,24 @@ fn planned(name: &[u8], record: &[u8], expected: &[u64]) {
     say(name, begins_with(&words, expected));
 }
 
-// A record that is refused by this number at this place.
+// A record that is refused by this number at this place, with no set of nodes beside it.
 fn refused(name: &[u8], record: &[u8], number: u64, place: u64) {
     let mut words = [0u64; plans::WORDS_MAX];
     let answer = plans::plan(record, &mut words);
-    say(name, answer.refusal == number && answer.place == place);
+    say(
+        name,
+        answer.refusal == number && answer.place == place && answer.ring == 0,
+    );
+}
+
+// A record that is refused by 10, with this node named and this set of nodes beside it.
+fn round(name: &[u8], record: &[u8], node: u64, ring: u64) {
+    let mut words = [0u64; plans::WORDS_MAX];
+    let answer = plans::plan(record, &mut words);
+    say(
+        name,
+        answer.refusal == 10 && answer.place == node && answer.ring == ring,
+    );
 }
 
 // The verdict for a board that holds this record's task alone.
@@ -189,8 +202,8 @@ fn plan_slips() {
     );
 }
 
-// The slips of a board, and of a reader.
-fn board_slips() {
+// The slips of a board, of a reader, and of a loop.
+fn other_slips() {
     not_withdrawn(b"id 0 finds no free row to withdraw", 0);
     alone(
         b"densities are rounded up: no on 1 core",
@@ -210,10 +223,16 @@ fn board_slips() {
         8,
         9,
     );
+    round(
+        b"a loop of 1, 3 and 4, on which 0 hangs and which hangs on 2",
+        b"\x01\x05\x0a\x05\x01\x01\x03\x01\x01\x04\x01\x00\x01\x01\x01\x01\x02\x02\x03",
+        1,
+        26,
+    );
 }
 
 fn main() {
     tables();
     plan_slips();
-    board_slips();
+    other_slips();
 }

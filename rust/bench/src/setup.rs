@@ -20,6 +20,15 @@ pub const SHAPES: [Shape; 5] = [
     ("loose", loose),
 ];
 
+/// Not to be planned: each node waits for the one before, node 0 for the last.
+pub const RING: Shape = ("ring", ring);
+
+fn ring(count: u64) -> Vec<Vec<u64>> {
+    (0..count)
+        .map(|node| vec![(node + count - 1) % count])
+        .collect()
+}
+
 /// A chain whose last step is node 0: a search for the next step that goes up
 /// the node numbers has the longest way.
 fn backward(count: u64) -> Vec<Vec<u64>> {

@@ -1,7 +1,7 @@
 //! The table of times.
 
 use crate::clock::pair;
-use crate::setup::{board, different, record, scattered, Aligned, DIFFERENT, SHAPES};
+use crate::setup::{board, different, record, scattered, Aligned, DIFFERENT, RING, SHAPES};
 use ffi::task::Task;
 use reference::{Row, PLAN_WORDS};
 use std::hint::black_box;
@@ -36,6 +36,8 @@ fn plans() {
     let longest = Task::longest().record();
     let name = format!("read {} bytes, then refusal 10", longest.len());
     line(&name, plan_times(&[longest]));
+    let name = format!("read {} of 64, then refusal 10", RING.0);
+    line(&name, plan_times(&[record(RING, 64, 1)]));
 }
 
 fn different_plans() {

@@ -2,7 +2,7 @@
 //! seen how far down the paint is gone.
 
 use crate::frames;
-use crate::setup::{board, record, SHAPES};
+use crate::setup::{board, record, RING, SHAPES};
 use ffi::task::Task;
 use reference::PLAN_WORDS;
 use std::hint::black_box;
@@ -26,11 +26,12 @@ const TABLE_BYTES: usize = 2 * 64 * WORD;
 
 pub fn print() {
     println!();
-    println!("stack in bytes, with the small frame that makes the call; for plan and");
-    println!("admit the deepest of 64 nodes in each shape and the longest record");
+    println!("stack in bytes, with the small frame that makes the call; for plan and admit");
+    println!("the deepest of 64 nodes in each shape, the ring and the longest record");
     println!("{:42}{:>9}{:>11}", "", "library", "reference");
     let with_id = |(shape, id)| record(shape, 64, id);
-    let mut records: Vec<Vec<u8>> = SHAPES.into_iter().zip(90..).map(with_id).collect();
+    let shapes = SHAPES.into_iter().chain([RING]);
+    let mut records: Vec<Vec<u8>> = shapes.zip(90..).map(with_id).collect();
     records.push(Task::longest().record());
     plan_depths(&records);
     admit_depths(&records);

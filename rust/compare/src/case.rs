@@ -1,6 +1,7 @@
 //! One case: buffers as they are lent, and calls made on them in turn, by
 //! the library and by the reference, each on its own copy.
 
+use crate::rounds;
 use reference::{Answer, Row};
 
 #[derive(Clone, PartialEq)]
@@ -18,13 +19,16 @@ pub struct Case {
     pub calls: Vec<Call>,
 }
 
-/// The first call after which the two sides aren't equal.
+/// The first call after which the two sides aren't equal, or the library's
+/// answer breaks a rule of loops.
 pub struct Difference {
     pub call: usize,
     pub library: Answer,
     pub reference: Answer,
     /// The first differing word, row or byte, if it is in a buffer.
     pub spot: Option<String>,
+    /// The rule of loops that the library's answer breaks.
+    pub broken: Option<&'static str>,
 }
 
 /// The four calls of one side.
@@ -55,12 +59,14 @@ pub fn difference(case: &Case) -> Option<Difference> {
     for (at, call) in case.calls.iter().enumerate() {
         let library_answer = library.make(call, &LIBRARY);
         let reference_answer = reference.make(call, &REFERENCE);
-        if library_answer != reference_answer || library != reference {
+        let broken = rounds::broken(call, &library_answer);
+        if library_answer != reference_answer || library != reference || broken.is_some() {
             return Some(Difference {
                 call: at,
                 library: library_answer,
                 reference: reference_answer,
                 spot: library.first_difference(&reference),
+                broken,
             });
         }
     }

@@ -1,4 +1,5 @@
-//! A record taken apart for shrinking, whether it is a good one or not.
+//! A record taken apart, whether it is a good one or not: for shrinking, and
+//! for the nodes that an answer speaks of.
 
 use ffi::task::{number, Node, Task};
 

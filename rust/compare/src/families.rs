@@ -4,9 +4,11 @@
 use crate::boards::{free_board, random_board, tight_board, SPOILS};
 use crate::case::{difference, Call, Case};
 use crate::chance::{any_board, any_call, any_record, board_calls, old_words};
+use crate::loops::drawings;
 use crate::random::Random;
 use crate::records::{
-    bad_forms, encoded, misspelt, random_bytes, samples, short_lists, spoilt, with_form, WORKED,
+    bad_forms, encoded, misspelt, plain_task, random_bytes, samples, short_lists, spoilt,
+    with_form, WORKED,
 };
 use crate::tasks::{random_task, task_of};
 use ffi::task::Task;
@@ -46,6 +48,7 @@ impl Run {
         self.family("forms", Run::forms)?;
         self.family("limits", Run::limits)?;
         self.family("parent counts", Run::parent_counts)?;
+        self.family("loops", Run::loops)?;
         self.family("word buffers", Run::word_buffers)?;
         self.family("board lengths", Run::board_lengths)?;
         self.family("board rows", Run::board_rows)?;
@@ -170,6 +173,15 @@ impl Run {
                 task.nodes[node].parents.reverse();
                 self.plan(task.record())?;
             }
+        }
+        Ok(())
+    }
+
+    fn loops(&mut self) -> Outcome {
+        for parents in drawings(&mut self.random) {
+            let record = plain_task(parents).record();
+            let calls = vec![Call::Plan(record.clone()), Call::Admit(record)];
+            self.on_board(free_board(), calls)?;
         }
         Ok(())
     }

@@ -5,9 +5,11 @@ mod case;
 mod chance;
 mod draft;
 mod families;
+mod loops;
 mod random;
 mod records;
 mod report;
+mod rounds;
 mod shrink;
 mod tasks;
 

@@ -36,7 +36,7 @@ pub fn samples(random: &mut Random) -> Vec<Vec<u8>> {
     records
 }
 
-fn plain_task(parents: Vec<Vec<u64>>) -> Task {
+pub fn plain_task(parents: Vec<Vec<u64>>) -> Task {
     let node = |parents: Vec<u64>| Node {
         execution: 300 + parents.len() as u64,
         parents,

@@ -18,6 +18,9 @@ pub fn print(case: &Case) {
     if let Some(spot) = found.spot {
         println!("  {spot}");
     }
+    if let Some(rule) = found.broken {
+        println!("  the library breaks the rule: {rule}");
+    }
 }
 
 fn answer(answer: &Answer) -> String {
@@ -25,8 +28,10 @@ fn answer(answer: &Answer) -> String {
         refusal,
         place,
         value,
+        ring,
     } = answer;
-    format!("refusal {refusal} place {place} value {value}")
+    let nodes: Vec<u32> = (0..64).filter(|node| ring >> node & 1 == 1).collect();
+    format!("refusal {refusal} place {place} value {value} ring {nodes:?}")
 }
 
 fn text(call: &Call) -> String {

@@ -72,7 +72,7 @@ fn close_a_loop(random: &mut Random, parents: &mut [Vec<u64>]) {
 }
 
 /// The same graph with its nodes listed in order, backwards or shuffled.
-fn renumbered(random: &mut Random, parents: Vec<Vec<u64>>) -> Vec<Vec<u64>> {
+pub fn renumbered(random: &mut Random, parents: Vec<Vec<u64>>) -> Vec<Vec<u64>> {
     let mut numbers: Vec<u64> = (0..parents.len() as u64).collect();
     match random.below(4) {
         0 => (),

@@ -1,8 +1,9 @@
-//! Document 01 in plain Rust: the four public calls and the printed sheet.
+//! Document 01, as the requests of document 02 change it, in plain Rust: the
+//! four public calls and the printed sheet.
 //!
-//! Written from the document alone, so that an answer of the proved library
-//! can be held against a second opinion. A refusal leaves everything lent as
-//! it was.
+//! Written from the documents alone, but for which loop is shown (the choice
+//! is docs/PROTOCOL.md's), so that an answer of the proved library can be held
+//! against a second opinion. A refusal leaves everything lent as it was.
 
 #![forbid(unsafe_code)]
 
@@ -10,6 +11,7 @@ mod board;
 mod plan;
 mod record;
 mod refusal;
+mod ring;
 mod sheet;
 mod timing;
 
@@ -24,13 +26,15 @@ use refusal::Refusal;
 use timing::Timing;
 
 /// What every call returns. With refusal 0, `value` is the words written, the
-/// row filled or freed, or 1 for yes and 0 for no; otherwise it is 0.
+/// row filled or freed, or 1 for yes and 0 for no; otherwise it is 0. Beside
+/// refusal 10, `ring` is the set of a loop's nodes, node k as bit k; else 0.
 #[repr(C)]
 #[derive(Clone, Copy, Debug, Default, PartialEq, Eq)]
 pub struct Answer {
     pub refusal: u64,
     pub place: u64,
     pub value: u64,
+    pub ring: u64,
 }
 
 impl From<Result<u64, Refusal>> for Answer {
@@ -44,6 +48,7 @@ impl From<Result<u64, Refusal>> for Answer {
                 refusal: refusal.number(),
                 place: refusal.place(),
                 value: 0,
+                ring: refusal.ring(),
             },
         }
     }

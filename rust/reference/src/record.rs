@@ -39,6 +39,11 @@ impl Table {
         reader.end()?;
         Ok(table)
     }
+
+    /// The set of the task's nodes.
+    pub fn all_nodes(&self) -> u64 {
+        u64::MAX >> (Table::LARGEST_COUNT - self.count)
+    }
 }
 
 /// The record and the place of the next byte in it.

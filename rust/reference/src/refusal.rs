@@ -1,4 +1,4 @@
-//! The refusal numbers and the place that goes with them.
+//! The refusal numbers, and the place and set of nodes that go with them.
 
 /// Why a call refuses, with the documents' number for it.
 #[derive(Clone, Copy, Debug)]
@@ -23,16 +23,30 @@ pub enum Rule {
     NotShortest = 18,
 }
 
-/// A rule and the byte it was broken at.
+/// A rule, the byte or node it was broken at, and the nodes of a loop.
 #[derive(Clone, Copy, Debug)]
 pub struct Refusal {
     rule: Rule,
     place: usize,
+    ring: u64,
 }
 
 impl Refusal {
     pub fn at(rule: Rule, place: usize) -> Refusal {
-        Refusal { rule, place }
+        Refusal {
+            rule,
+            place,
+            ring: 0,
+        }
+    }
+
+    /// At the node that the loop is named by, one of the ring.
+    pub fn of_loop(node: usize, ring: u64) -> Refusal {
+        Refusal {
+            rule: Rule::Loop,
+            place: node,
+            ring,
+        }
     }
 
     pub fn number(self) -> u64 {
@@ -42,9 +56,13 @@ impl Refusal {
     pub fn place(self) -> u64 {
         self.place as u64
     }
+
+    pub fn ring(self) -> u64 {
+        self.ring
+    }
 }
 
-/// Rules that speak of no byte have place 0.
+/// Rules that speak of no byte and no node have place 0.
 impl From<Rule> for Refusal {
     fn from(rule: Rule) -> Refusal {
         Refusal::at(rule, 0)

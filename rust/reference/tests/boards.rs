@@ -29,7 +29,7 @@ fn refused(refusal: u64, place: u64) -> Answer {
     Answer {
         refusal,
         place,
-        value: 0,
+        ..Answer::default()
     }
 }
 

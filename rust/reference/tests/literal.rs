@@ -1,7 +1,8 @@
 //! The planner against the document's definitions taken literally: reaching
-//! by closure, cuts from every start and finish, offsets by walking parents.
+//! by closure, cuts from every start and finish, offsets by walking parents,
+//! a loop by leaving out nodes.
 
-use reference::{plan, PLAN_WORDS};
+use reference::{plan, Answer, PLAN_WORDS};
 use std::collections::BTreeSet;
 
 struct Task {
@@ -75,13 +76,14 @@ impl Task {
         bytes
     }
 
-    fn has_loop(&self) -> bool {
+    /// Whether the node is reached from itself by edges inside the set.
+    fn comes_back(&self, node: usize, set: &[bool]) -> bool {
         let count = self.executions.len();
         let mut reach = vec![vec![false; count]; count];
         for (child, parents) in self.parents.iter().enumerate() {
-            parents
-                .iter()
-                .for_each(|&parent| reach[child][parent] = true);
+            for &parent in parents {
+                reach[child][parent] = set[child] && set[parent];
+            }
         }
         for middle in 0..count {
             for from in 0..count {
@@ -90,7 +92,24 @@ impl Task {
                 }
             }
         }
-        (0..count).any(|node| reach[node][node])
+        reach[node][node]
+    }
+
+    /// The refusal that names the loop, if there is one.
+    fn looping(&self) -> Option<Answer> {
+        let count = self.executions.len();
+        let mut set = vec![true; count];
+        let named = (0..count).find(|&node| self.comes_back(node, &set))?;
+        for node in (0..count).filter(|&node| node != named) {
+            set[node] = false;
+            set[node] = !self.comes_back(named, &set);
+        }
+        Some(Answer {
+            refusal: 10,
+            place: named as u64,
+            value: 0,
+            ring: (0..count).map(|node| u64::from(set[node]) << node).sum(),
+        })
     }
 
     /// The greatest over the parents of that value, 0 without any.
@@ -173,14 +192,17 @@ fn deadlines(task: &Task, segments: &[Segment]) -> (u64, Vec<u64>) {
     (2 * h, segments.iter().map(numerator).collect())
 }
 
-/// The plan's words, or the refusal's number.
-fn literal(task: &Task) -> Result<Vec<u64>, u64> {
-    if task.has_loop() {
-        return Err(10);
+/// The plan's words, or the refusal.
+fn literal(task: &Task) -> Result<Vec<u64>, Answer> {
+    if let Some(refusal) = task.looping() {
+        return Err(refusal);
     }
     let segments = segments(task);
     if total(&segments) > task.period {
-        return Err(11);
+        return Err(Answer {
+            refusal: 11,
+            ..Answer::default()
+        });
     }
     let (over, numerators) = deadlines(task, &segments);
     let count = task.executions.len();
@@ -215,7 +237,7 @@ fn random_tasks() {
                 assert_eq!(answer.refusal, 0);
                 assert_eq!(words[..answer.value as usize], expected);
             }
-            Err(refusal) => assert_eq!(answer.refusal, refusal),
+            Err(refusal) => assert_eq!(answer, refusal),
         }
     }
     assert!(planned > 5_000, "only {planned} tasks were planned");

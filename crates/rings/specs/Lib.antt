@@ -1,0 +1,3 @@
+pub mod Inside
+pub mod Ring
+pub mod Round
