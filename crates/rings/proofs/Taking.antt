@@ -33,6 +33,15 @@ pub record Taking (P : List ℕ) (n S r met taken left : ℕ) : Type 0 where
   pub either : (k : ℕ) → Member k met → (Member k taken) ⊎ (Member k left)
   pub not-taken : bit r taken ≡ 0
 
+-- p is left, and is not r
+pub record Next (P : List ℕ) (n S r met taken left p : ℕ) : Type 0 where
+  pub tidy : Tidy P n
+  pub word : S < 2 ^ 64
+  pub taking : Taking P n S r met taken left
+  pub low : p < 64
+  pub here : Member p left
+  pub other : p ≡ r → ⊥
+
 module _ {P : List ℕ} {n S r : ℕ} (ok : Tidy P n) (word : S < 2 ^ 64) where
   -- at first the parents of r
   pub taking-none : Taking P n S r (bitAnd (at P r) S) 0 (bitAnd (at P r) S)
@@ -49,50 +58,53 @@ module _ {P : List ℕ} {n S r : ℕ} (ok : Tidy P n) (word : S < 2 ^ 64) where
     not-taken = bit-zero r;
   }
 
-  -- one node more is taken up, and it is not r
-  module _ {met taken left : ℕ} (t : Taking P n S r met taken left) (p : ℕ) (l : p < 64) (m : Member p left) (other : p ≡ r → ⊥) where
-    abbrev with-parents : ℕ
-    with-parents = bitOr met (bitAnd (at P p) S)
+-- it is taken up
+module _ {P : List ℕ} {n S r met taken left p : ℕ} (next : Next P n S r met taken left p) where
+  t : Taking P n S r met taken left
+  t = next .taking
 
-    abbrev with-taken : ℕ
-    with-taken = bitOr taken (2 ^ p)
+  abbrev with-parents : ℕ
+  with-parents = bitOr met (bitAnd (at P p) S)
 
-    met-word : with-parents < 2 ^ 64
-    met-word = or-lt 64 met (bitAnd (at P p) S) (t .met-word) (omega (arith, and-le-r (at P p) S))
+  abbrev with-taken : ℕ
+  with-taken = bitOr taken (2 ^ p)
 
-    taken-word : with-taken < 2 ^ 64
-    taken-word = or-lt 64 taken (2 ^ p) (t .taken-word) (pow-lt l)
+  met-word : with-parents < 2 ^ 64
+  met-word = or-lt 64 met (bitAnd (at P p) S) (t .met-word) (omega (arith, next .word, and-le-r (at P p) S))
 
-    -- what was met before, or is a parent
-    parts : (k : ℕ) → Member k with-parents → (Member k met) ⊎ (Member k (at P p) × Member k S)
-    parts k q = ⊎-elim (λ (b : Member k met). inl b) (λ (b : Member k (bitAnd (at P p) S)). inr (mem-and k (at P p) S b)) (mem-or-cases k met (bitAnd (at P p) S) q)
+  taken-word : with-taken < 2 ^ 64
+  taken-word = or-lt 64 taken (2 ^ p) (t .taken-word) (pow-lt (next .low))
 
-    pub taking-more : Taking P n S r with-parents with-taken (bitAnd with-parents (2 ^ 64 - 1 - with-taken))
-    taking-more = record {
-      met-word = met-word;
-      taken-word = taken-word;
-      left-word = omega (arith, met-word, and-le-l with-parents (2 ^ 64 - 1 - with-taken));
-      within = λ k q. ⊎-elim (λ (b : Member k met). t .within k b) (λ b. b .1) (parts k q);
-      reached = λ k q s. ⊎-elim
-          (λ (b : Member k met). t .reached k b s)
-          (λ b. let up = t .left-in p m .0 in trans (t .reached p up s) (edge (in-edge P n S ok (record { child = t .within p up; parent = b .1; edge = b .0 }))))
-          (parts k q);
-      first = λ k e s. mem-or-l k met (bitAnd (at P p) S) (t .first k e s);
-      closed = λ v k q e s. elim (ℕ-discrete v p) [
-        | yes z ↦ mem-or-r k met (bitAnd (at P p) S) (and-mem k (at P p) S (rw z at e) s)
-        | no z ↦ mem-or-l k met (bitAnd (at P p) S) (t .closed v k (sym (put-other taken p v z) ∙ q) e s)
-      ];
-      left-in = λ k q. missing with-parents with-taken k (mem-lt 64 k _ (omega (arith, met-word, and-le-l with-parents (2 ^ 64 - 1 - with-taken))) q) taken-word q;
-      either = λ k q. ⊎-elim
-          (λ (b : Member k with-taken). inl b)
-          (λ (z : bit k with-taken ≡ 0). inr (missed with-parents with-taken k (mem-lt 64 k with-parents met-word q) taken-word q z))
-          (mem-or k with-taken);
-      not-taken = put-other taken p r (λ q. other (sym q)) ∙ t .not-taken;
-    }
+  -- what was met before, or is a parent
+  parts : (k : ℕ) → Member k with-parents → (Member k met) ⊎ (Member k (at P p) × Member k S)
+  parts k q = ⊎-elim (λ (b : Member k met). inl b) (λ (b : Member k (bitAnd (at P p) S)). inr (mem-and k (at P p) S b)) (mem-or-cases k met (bitAnd (at P p) S) q)
 
-    -- so one node fewer is not taken up
-    pub taking-less : 64 - sizeTo 64 with-taken < 64 - sizeTo 64 taken
-    taking-less = let e = size-put 64 taken p l (t .left-in p m .1) in let f = size-full 64 with-taken in omega arith
+  pub taking-more : Taking P n S r with-parents with-taken (bitAnd with-parents (2 ^ 64 - 1 - with-taken))
+  taking-more = record {
+    met-word = met-word;
+    taken-word = taken-word;
+    left-word = omega (arith, met-word, and-le-l with-parents (2 ^ 64 - 1 - with-taken));
+    within = λ k q. ⊎-elim (λ (b : Member k met). t .within k b) (λ b. b .1) (parts k q);
+    reached = λ k q s. ⊎-elim
+        (λ (b : Member k met). t .reached k b s)
+        (λ b. let up = t .left-in p (next .here) .0 in trans (t .reached p up s) (edge (in-edge P n S (next .tidy) (record { child = t .within p up; parent = b .1; edge = b .0 }))))
+        (parts k q);
+    first = λ k e s. mem-or-l k met (bitAnd (at P p) S) (t .first k e s);
+    closed = λ v k q e s. elim (ℕ-discrete v p) [
+      | yes z ↦ mem-or-r k met (bitAnd (at P p) S) (and-mem k (at P p) S (rw z at e) s)
+      | no z ↦ mem-or-l k met (bitAnd (at P p) S) (t .closed v k (sym (put-other taken p v z) ∙ q) e s)
+    ];
+    left-in = λ k q. missing with-parents with-taken k (mem-lt 64 k _ (omega (arith, met-word, and-le-l with-parents (2 ^ 64 - 1 - with-taken))) q) taken-word q;
+    either = λ k q. ⊎-elim
+        (λ (b : Member k with-taken). inl b)
+        (λ (z : bit k with-taken ≡ 0). inr (missed with-parents with-taken k (mem-lt 64 k with-parents met-word q) taken-word q z))
+        (mem-or k with-taken);
+    not-taken = put-other taken p r (λ q. next .other (sym q)) ∙ t .not-taken;
+  }
+
+  -- so one node fewer is not taken up
+  pub taking-less : 64 - sizeTo 64 with-taken < 64 - sizeTo 64 taken
+  taking-less = let e = size-put 64 taken p (next .low) (t .left-in p (next .here) .1) in let f = size-full 64 with-taken in omega arith
 
 module _ {P : List ℕ} {n S r met taken left : ℕ} (t : Taking P n S r met taken left) where
   -- r is left: it was met

@@ -12,7 +12,7 @@ pub record Smallest (P : List ℕ) (r : ℕ) : Type 0 where
   pub here : Reaches P r r
   pub before : (v : ℕ) → v < r → Reaches P v v → ⊥
 
--- one round through all members of S, each met once: from r on, each node that is met waits for the next, and the last for r
+-- one round through all members of S, each met once (docs/DECISIONS.md, 31): from r on each node that is met waits for the next, the last for r
 pub record Circle (P : List ℕ) (r S : ℕ) : Type 0 where
   pub size : ℕ
   pub met : ℕ → ℕ
@@ -23,7 +23,7 @@ pub record Circle (P : List ℕ) (r S : ℕ) : Type 0 where
   pub all : (x : ℕ) → Member x S → (i : ℕ) × (i < size) × (met i ≡ x)
   pub once : (i j : ℕ) → i < size → j < size → met i ≡ met j → i ≡ j
 
--- S is "a loop through it", and no larger than it must be
+-- S is "a loop through it", and no larger than it must be (docs/DECISIONS.md, 31)
 pub record Round (P : List ℕ) (r S : ℕ) : Type 0 where
   -- "the named node is a member"
   pub member : Member r S

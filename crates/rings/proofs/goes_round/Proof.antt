@@ -1,8 +1,8 @@
 -- `rings::goes_round` meets its contract: at every turn what was met is reached, and each node that was taken up has its parents among what was met.
 use mathlib.Core.Path.{_≡_, sym, _∙_}
-use Prim.Native.Nat.{_-_}
+use Prim.Native.Nat.{_-_, _^_}
 use native.Mathlib.Omega.{arith}
-use lib.Bits.{bitAnd}
+use lib.Bits.{bitAnd, bitOr}
 use lib.Count.{trailingZeros}
 use denote.Ref.{now}
 use Rattle.sets.specs.Size.{sizeTo}
@@ -10,7 +10,7 @@ use Rattle.sets.proofs.Bits.{with-or, has-in, has-out, not-mem}
 use Rattle.sets.proofs.Walks.{Walk, walk}
 use Rattle.ways.proofs.Closure.{round-true, round-false}
 use Rattle.rings.proofs.Inside.{inside-tidy}
-use Rattle.rings.proofs.Taking.{Taking, taking-none, taking-more, taking-less, taking-yes, taking-no}
+use Rattle.rings.proofs.Taking.{Taking, Next, taking-none, taking-more, taking-less, taking-yes, taking-no}
 use Rattle.rings.proofs.goes_round.Statement.{statement}
 use Rattle.rings.proofs.goes_round.Tie as tie
 
@@ -35,19 +35,26 @@ returns c =
 low : (c : tie.Else1 Inv-loop μ-loop) → let l = c .before .before .before .loop .left in Walk l (trailingZeros 64 l) (bitAnd l (l - 1))
 low c = let i = c .before .before in walk (i .before .loop .left) (i .loop-test .taken) (i .before .loop .inv .left-word)
 
-other : (c : tie.Else1 Inv-loop μ-loop) → let t = c .before .before .before in trailingZeros 64 (t .loop .left) ≡ t .before .before .args .r → ⊥
-other c e =
+next : (c : tie.Else1 Inv-loop μ-loop) → let t = c .before .before .before in let a = t .before .before .args in let l = t .loop in Next (now (a .parents)) (a .n) (a .set) (a .r) (l .met) (l .taken) (l .left) (trailingZeros 64 (l .left))
+next c =
     let t = c .before .before .before in
-    let out = has-out (t .before .before .args .r) (t .loop .left) (sym (c .before .is-member .ensures) ∙ c .if1 .left) in
-    not-mem out (rw e at (low c .mem))
+    let a = t .before .before in
+    let out = has-out (a .args .r) (t .loop .left) (sym (c .before .is-member .ensures) ∙ c .if1 .left) in
+    record {
+      tidy = a .pre .2;
+      word = a .fits .set .fits;
+      taking = t .loop .inv;
+      low = low c .lt;
+      here = low c .mem;
+      other = λ e. not-mem out (rw e at (low c .mem));
+    }
+
+-- the set of those taken up, as a word
+put : (c : tie.After-with-member Inv-loop μ-loop) → let l = c .before .before .before .before .loop in c .with-member .result ≡ bitOr (l .taken) (2 ^ trailingZeros 64 (l .left))
+put c = let l = c .before .before .before .before .loop in c .with-member .ensures ∙ with-or (trailingZeros 64 (l .left)) (l .taken)
 
 loop-again : tie.Need-loop-again Inv-loop μ-loop
-loop-again c =
-    let e = c .before .before in
-    let t = e .before .before .before in
-    let a = t .before .before in
-    let p = trailingZeros 64 (t .loop .left) in
-    rw (c .before .with-member .ensures ∙ with-or p (t .loop .taken)) (taking-more (a .pre .2) (a .fits .set .fits) (t .loop .inv) p (low e .lt) (low e .mem) (other e))
+loop-again c = rw (put (c .before)) (taking-more (next (c .before .before)))
 
 -- nothing is left
 returns-2 : tie.Need-returns-2 Inv-loop μ-loop
@@ -77,12 +84,7 @@ element-copy-out-met-2 : tie.Need-element-copy-out-met-2 Inv-loop μ-loop
 element-copy-out-met-2 c = low (c .before) .lt
 
 loop-less : tie.Need-loop-less Inv-loop μ-loop
-loop-less c =
-    let e = c .before .before in
-    let t = e .before .before .before in
-    let a = t .before .before in
-    let p = trailingZeros 64 (t .loop .left) in
-    rw (c .before .with-member .ensures ∙ with-or p (t .loop .taken)) (taking-less (a .pre .2) (a .fits .set .fits) (t .loop .inv) p (low e .lt) (low e .mem) (other e))
+loop-less c = rw (put (c .before)) (taking-less (next (c .before .before)))
 
 pub goes-round-spec : {M : Type 1} → statement M
 goes-round-spec =
