@@ -1,6 +1,8 @@
-/* Plans a task, admits it, asks for the verdict and withdraws it, through planner.h; shows where another goes round. */
+/* Plans a task, admits it, asks for the verdict and withdraws it, through planner.h; shows where another goes round, and
+ * what a unit for a join costs. */
 #include <inttypes.h>
 #include <stdio.h>
+#include <string.h>
 
 #include "planner.h"
 
@@ -24,6 +26,43 @@ static void show(const char *call, struct planner_answer a)
         show_nodes(a.ring);
     }
     printf("\n");
+}
+
+/* join.task: three steps meet in node 3, three more in node 7; in edition 2 these two run nothing. */
+static const uint8_t join[] = {
+    0x02, 0x2B, 0x3C, 0x0B,                               /* edition, id 43, period 60, 11 nodes */
+    0x04, 0x00, 0x03, 0x00, 0x03, 0x00,                   /* nodes 0 to 2: no parents */
+    0x00, 0x03, 0x00, 0x01, 0x02,                         /* 3, a join */
+    0x06, 0x01, 0x03, 0x04, 0x01, 0x03, 0x05, 0x01, 0x03, /* 4 to 6 */
+    0x00, 0x03, 0x04, 0x05, 0x06,                         /* 7, a join */
+    0x05, 0x01, 0x07, 0x04, 0x01, 0x07, 0x03, 0x01, 0x07, /* 8 to 10 */
+};
+
+/* A task's path, and the verdict for four cores where it stands alone. */
+static void show_alone(const char *name, const uint8_t *record, uint64_t length)
+{
+    uint64_t words[PLANNER_WORDS] = {0};
+    struct planner_row board[PLANNER_ROWS] = {0};
+    uint64_t path = 0;
+
+    show(name, planner_admit(record, length, words, PLANNER_WORDS, board, PLANNER_ROWS));
+    for (uint64_t segment = 0; segment < words[1]; segment++)
+        path += words[3 + 3 * segment + 1];
+    printf("path %" PRIu64 ", over %" PRIu64 "\n", path, words[0]);
+    show("ask 4 cores", planner_ask(board, PLANNER_ROWS, 4));
+}
+
+/* unit.task: the same as task 44 in edition 1, with a unit for each of the two. */
+static void show_unit(void)
+{
+    uint8_t unit[sizeof join];
+
+    memcpy(unit, join, sizeof join);
+    unit[0] = 0x01;  /* edition */
+    unit[1] = 0x2C;  /* id 44 */
+    unit[10] = 0x01; /* 3, a step now */
+    unit[24] = 0x01; /* 7, a step now */
+    show_alone("admit unit", unit, sizeof unit);
 }
 
 int main(void)
@@ -59,5 +98,7 @@ int main(void)
     show("ask 0 cores", planner_ask(board, PLANNER_ROWS, 0));
     show("withdraw 3", planner_withdraw(board, PLANNER_ROWS, 3));
     show("withdraw 3 again", planner_withdraw(board, PLANNER_ROWS, 3));
+    show_alone("admit join", join, sizeof join);
+    show_unit();
     return 0;
 }

@@ -23,13 +23,14 @@
 
 /* What a call answers. refusal 0: accepted, and value holds what the call returns. Otherwise refusal is the number of
  * the rule that was broken, value 0, and place where it was met: a byte of the record (for 1 the record's length), for 10
- * the smallest node that waits for itself, from 11 to 17 0. ring (since version 2) is for 10 the set of nodes of one loop
- * through that node, node k as bit k, from which none can be left out; with every other answer it is 0.
- * Refusals: 1 the record ends too early; 2 a number's fourth byte has its top bit set; 3 edition, 4 id, 5 period, 6 node
- * count, 7 execution out of range; 8 a parent count or parent out of range or order; 9 bytes follow the record; 10 a node
- * waits for itself, over others or not; 11 the path is longer than the period; 12 the id stands already; 13 no row is
- * free; 14 no task with this id stands; 15 no such number of cores; 16 too few words; 17 the board isn't sound; 18 a
- * number isn't in its shortest form. */
+ * the smallest node that waits for itself, and 0 for 11 to 17 and for 21. ring (since version 2) is for 10 the set of nodes
+ * of one loop through that node, node k as bit k, from which none can be left out; with every other answer it is 0.
+ * Refusals: 1 the record ends too early; 2 a number's fourth byte has its top bit set; 3 the edition is neither 1 nor
+ * 2; 4 id, 5 period, 6 node count, 7 execution (from 1 in edition 1, from 0 in edition 2) out of range; 8 a parent
+ * count or parent out of range or order; 9 bytes follow the record; 10 a node waits for itself, over others or not; 11
+ * the path is longer than the period; 12 the id stands already; 13 no row is free; 14 no task with this id stands; 15
+ * no such number of cores; 16 too few words; 17 the board isn't sound; 18 a number isn't in its shortest form; 21 all
+ * executions are 0. */
 struct planner_answer {
     uint64_t refusal;
     uint64_t place;
@@ -49,13 +50,14 @@ struct planner_row {
 /* Plans the task of a record into words[0 .. 3 + 3s + 3n - 1]; words past these keep their content.
  *   words[0] Q, words[1] the segment count s, words[2] the node count n,
  *   then s times (threads, length, deadline numerator), then n times (offset numerator, deadline numerator, density).
- * Offsets and deadlines are in time units times Q; densities are in millionths, rounded up.
- * value: the number of words written. Refusals, in this order: 16; 1 to 9 and 18 as met from the left; 10; 11. */
+ * Offsets and deadlines are in time units times Q; densities are in millionths, rounded up. A node with execution 0 runs
+ * in no segment: it has deadline 0 and density 0.
+ * value: the number of words written. Refusals, in this order: 16; 1 to 9 and 18 as met from the left; 21; 10; 11. */
 struct planner_answer planner_plan(const uint8_t *record, uint64_t record_length,
                                    uint64_t *words, uint64_t words_length);
 
 /* Plans the task as planner_plan does and enters it in the lowest free row of the board.
- * value: the row filled, 0 .. 15. Refusals: 16; 17; 1 to 9 and 18 as met from the left; 10; 11; 12 (the id stands
+ * value: the row filled, 0 .. 15. Refusals: 16; 17; 1 to 9 and 18 as met from the left; 21; 10; 11; 12 (the id stands
  * already); 13 (no row is free). */
 struct planner_answer planner_admit(const uint8_t *record, uint64_t record_length,
                                     uint64_t *words, uint64_t words_length,

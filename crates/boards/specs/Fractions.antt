@@ -1,7 +1,7 @@
 -- Exact fractions: "Unrounded, a fraction is a pair of whole numbers, the lower one above 0".
 use mathlib.Core.List.{List, [], _∷_}
 use Prim.Native.Nat.{ℕ, _+_, _-_, _*_, _≤_}
-use lib.Dec.{leb}
+use lib.Dec.{eqb, leb}
 use Rattle.plain.specs.Pick.{pick}
 
 -- upper over lower
@@ -9,13 +9,13 @@ pub record Fraction : Type 0 where
   pub upper : ℕ
   pub lower : ℕ
 
--- "a density is execution × Q over numerator"
-abbrev pub exactDensity : (execution over numerator : ℕ) → Fraction
-exactDensity x q n = record { upper = x * q; lower = n }
-
 -- a whole number; "0 is 0 over 1"
 abbrev pub whole : ℕ → Fraction
 whole k = record { upper = k; lower = 1 }
+
+-- "a density is execution × Q over numerator"; "A node with 0 .. has .. density 0"
+abbrev pub exactDensity : (execution over numerator : ℕ) → Fraction
+exactDensity x q n = pick (eqb x 0) (whole 0) (record { upper = x * q; lower = n })
 
 infixl 60 _plus_
 -- "a/b + c/d is (a × d + c × b) over (b × d)"

@@ -1,9 +1,10 @@
--- Where no node is reached from itself, starts and offsets are longest ways, which one equation determines; and its cut is the one cutting of its diagram.
+-- Where no node is reached from itself, starts and offsets are longest ways, which one equation determines; its cut is the one cutting of its
+-- diagram; and a join, which finishes where it starts, runs nowhere and cuts nothing.
 use mathlib.Core.Bool.{Bool, true, false}
 use mathlib.Core.Path.{_≡_, refl, sym, ap, _∙_}
 use mathlib.Core.Logic.{⊎-elim}
 use mathlib.Core.List.{List}
-use Prim.Native.Nat.{ℕ, _+_, _≤_, _<_}
+use Prim.Native.Nat.{ℕ, suc, _+_, _≤_, _<_}
 use native.Mathlib.Omega.{arith}
 use Rattle.plain.specs.At.{at, tab}
 use Rattle.plain.specs.Sums.{maxTo}
@@ -19,12 +20,16 @@ use Rattle.ways.specs.Ways.{begins}
 use Rattle.ways.proofs.Closure.{loops-yes}
 use Rattle.ways.proofs.Ways.{begin-same, begin-rule, only-begin-rule}
 use Rattle.ways.specs.Totals.{pathOf}
-use Rattle.segments.proofs.Segments.{segments-le}
+use Rattle.segments.proofs.Segments.{segments-le, segment-up}
+use Rattle.segments.proofs.Diagram.{idle-out, some-ends}
+use Rattle.segments.proofs.Shares.{share-idle}
 use Rattle.segments.proofs.Cutting.{is-cutting, one-cutting}
-use Rattle.plans.specs.Diagram.{finish}
-use Rattle.plans.specs.Shares.{deadline, offset}
+use Rattle.shares.specs.Density.{millionths}
+use Rattle.shares.proofs.Densities.{idle}
+use Rattle.plans.specs.Diagram.{finish, segmentCount}
+use Rattle.plans.specs.Shares.{over, numeratorOf, deadline, offset, density}
 use Rattle.plans.proofs.Table.{tidy, free, diagram}
-use Rattle.claims.specs.Diagram.{Ruled, TablesTimed}
+use Rattle.claims.specs.Diagram.{Ruled, Join, cutOf, TablesTimed}
 
 module _ (t : TaskTable) (r : Plannable t) (f : loops (t .parents) (t .count) ≡ false) where
   -- longest ways over weights that stand in a list
@@ -42,6 +47,21 @@ module _ (t : TaskTable) (r : Plannable t) (f : loops (t .parents) (t .count) �
   offsets : Ruled t (deadline t) (offset t)
   unfolding offset
   offsets = ruled (tab (t .count) (deadline t)) (deadline t) (at-tab (t .count) (deadline t))
+
+  -- a join, by the laws of nodes without execution
+  join : (v : ℕ) → v < t .count → at (t .execution) v ≡ 0 → Join t v
+  unfolding deadline density
+  join v h e = record {
+    no-segment = λ j l m. let out = idle-out (diagram r f) j v l h e in omega arith;
+    no-deadline = share-idle (diagram r f) (numeratorOf t) v h e;
+    no-density = ap (λ (x : ℕ). millionths x (over t) (deadline t v)) e ∙ idle (over t) (deadline t v);
+  }
+
+  -- a node that runs up to a segment's end has started before it
+  run-cut : (j : ℕ) → j < segmentCount t → (v : ℕ) × (v < t .count) × (1 ≤ at (t .execution) v) × (finish t v ≡ cutOf t (suc j))
+  run-cut j l =
+      let (v, h, s, e) = some-ends (diagram r f) j l in
+      (v, h, omega (arith, segment-up (t .count) (finish t) j l, diagram r f .ends v h), e)
 
 -- of one node or more, some finish is the latest
 some-latest : (n : ℕ) (F : ℕ → ℕ) → 1 ≤ n → (v : ℕ) × (v < n) × (F v ≡ maxTo n F)
@@ -72,4 +92,6 @@ tables-timed t range n =
       only-cuts = λ s c k. one-cutting (diagram r f) k;
       few-segments = segments-le (t .count) (finish t);
       offsets = offsets t r f;
+      joins = join t r f;
+      run-cuts = run-cut t r f;
     }

@@ -1,5 +1,6 @@
 mod Rule
 mod Promise
+mod Exact
 pub mod Record
 pub mod Plan
 mod Board

@@ -13,10 +13,10 @@ use Rattle.refusals.specs.Numbers.{loop, longPath, fewWords}
 use Rattle.refusals.specs.Refusal.{refusal}
 use Rattle.refusals.specs.After.{After}
 use Rattle.tables.specs.declared.TaskTable.{TaskTable}
-use Rattle.shares.proofs.Densities as densities
 use Rattle.plans.specs.Shares.{over, deadline, density}
 use Rattle.plans.specs.Words.{wordsMax}
 use Rattle.plans.specs.Accepted.{Accepted}
+use Rattle.plans.specs.Inner.Planned.{Planned}
 use Rattle.plans.specs.Calls.{taskOf, unplanned, planned, planCall}
 use Rattle.plans.proofs.Table.{plans-accepted}
 use Rattle.plans.proofs.Kept.{kept}
@@ -25,9 +25,10 @@ use Rattle.plans.proofs.Cases.{Tasking, tasking}
 use Rattle.plans.proofs.Cases.Tasking.{unread, round, long, goes}
 use Rattle.claims.specs.Rule.{Decides, IsAccepted, IsRefused}
 use Rattle.claims.specs.Record.{NamesLoop}
-use Rattle.claims.specs.Plan.{planRules, planValue, GoodPlan, OfPlanning}
+use Rattle.claims.specs.Plan.{planRules, planValue, exactOf, GoodPlan, OfPlanning}
 use Rattle.claims.proofs.Rule.{single, gives, not-given}
 use Rattle.claims.proofs.Promise.{promised}
+use Rattle.claims.proofs.Exact.{Least, rounds}
 use Rattle.claims.proofs.Record.{record-singles, unread-some, decided, names-loop}
 
 module _ (bytes words : List ℕ) where
@@ -82,18 +83,21 @@ module _ (bytes words : List ℕ) where
       go (tries w (long e l h)) z = absurd (eqb-false longPath 0 refl z)
       go (tries w (goes e ok)) z = (ok, refl)
 
+-- a node's density is its unrounded one, rounded up
+pub exact : {t : TaskTable} → Planned t → (v : ℕ) → v < t .count → Least (exactOf t v) (density t v)
+unfolding density
+exact {t} ok v h = rounds (at (t .execution) v) (over t) (deadline t v) (deadline-some ok v h)
+
 -- every accepted table has a good plan
 pub good-plan : {t : TaskTable} → Accepted t → GoodPlan t
-unfolding density
 good-plan {t} a =
     let ok = plans-accepted a in
-    let low : (v : ℕ) → v < t .count → 0 < deadline t v = λ v h. deadline-some ok v h (a .range .execution-low v h) in
     record {
       accepted = a;
       kept = kept ok;
-      proper = low;
-      enough = λ v h. densities.enough (at (t .execution) v) (over t) (deadline t v) (inl (low v h));
-      least = λ v r h l. densities.least (at (t .execution) v) (over t) (deadline t v) r l;
+      proper = λ v h. exact ok v h .rounded .proper;
+      enough = λ v h. exact ok v h .rounded .enough;
+      least = λ v r h l. exact ok v h .least r l;
     }
 
 -- the promises

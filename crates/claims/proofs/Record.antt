@@ -22,8 +22,8 @@ use Rattle.numbers.specs.Number.{recordMore}
 use Rattle.numbers.specs.Form.{Long, Padded}
 use Rattle.records.specs.Expected.{Due, range, Refuses}
 use Rattle.records.specs.Expected.Due.{edition, id, period, count, execution, parentCount, parent}
-use Rattle.records.specs.Expected.Refuses.{ends, long as too-long, padded, outside, follow}
-use Rattle.records.proofs.Answers.{accepted-table, refused-table}
+use Rattle.records.specs.Expected.Refuses.{ends, long as too-long, padded, outside, follow, idle}
+use Rattle.records.proofs.Answers.{idle-edition, accepted-table, refused-table}
 use Rattle.records.proofs.Expected.{rule-refused, refused-rule, spelt-read, read-spelt, refused-told}
 use Rattle.ways.specs.Reaches.{Reaches}
 use Rattle.ways.specs.Inner.Tidy.{Tidy}
@@ -39,7 +39,7 @@ use Rattle.plans.proofs.Table.{tidy}
 use Rattle.plans.proofs.Cases.{Tasking}
 use Rattle.plans.proofs.Cases.Tasking.{unread, round, long, goes}
 use Rattle.claims.specs.Rule.{Rule, Decides}
-use Rattle.claims.specs.Record.{readerRule, loopRule, recordRules, NamesLoop, Faulty, OfReading}
+use Rattle.claims.specs.Record.{readerRule, loopRule, recordRules, NamesLoop, Faulty, NoneRuns, OfReading}
 use Rattle.claims.proofs.Rule.{Single, Singles, single, gives, not-given}
 
 -- the outcome that a rule of the reader's gives
@@ -49,21 +49,24 @@ outcome-of {bytes} f = ap (λ (x : Reading). x .outcome) (rule-refused bytes f)
 -- a range is refused by 3 to 8
 range-number : (d : Due) → (3 ≤ range d .broken) × (range d .broken ≤ 8)
 range-number edition = (omega arith, omega arith)
-range-number id = (omega arith, omega arith)
-range-number (period d) = (omega arith, omega arith)
-range-number (count d p) = (omega arith, omega arith)
+range-number (id x) = (omega arith, omega arith)
+range-number (period x d) = (omega arith, omega arith)
+range-number (count x d p) = (omega arith, omega arith)
 range-number (execution t i) = (omega arith, omega arith)
 range-number (parentCount t i e) = (omega arith, omega arith)
 range-number (parent t i e left low set) = (omega arith, omega arith)
 
--- so 2 and 18 are each given by one rule alone
-fault-of : {bytes : List ℕ} {k place : ℕ} → Refuses bytes k place →
-    (k ≡ 2 → Faulty (Long recordMore) bytes place) × (k ≡ 18 → Faulty (Padded recordMore) bytes place)
-fault-of (ends e f) = (λ q. absurd (omega arith), λ q. absurd (omega arith))
-fault-of (too-long e f) = (λ q. (_, e, f), λ q. absurd (omega arith))
-fault-of (padded e f) = (λ q. absurd (omega arith), λ q. (_, e, f))
-fault-of (outside {due = d} e w o) = (λ q. absurd (omega (arith, range-number d)), λ q. absurd (omega (arith, range-number d)))
-fault-of (follow e h) = (λ q. absurd (omega arith), λ q. absurd (omega arith))
+-- so 2, 18 and 21 are each given by one rule alone
+abbrev FaultOf : List ℕ → (k place : ℕ) → Type 0
+FaultOf bytes k place = (k ≡ 2 → Faulty (Long recordMore) bytes place) × (k ≡ 18 → Faulty (Padded recordMore) bytes place) × (k ≡ 21 → NoneRuns bytes place)
+
+fault-of : {bytes : List ℕ} {k place : ℕ} → Refuses bytes k place → FaultOf bytes k place
+fault-of (ends e f) = (λ q. absurd (omega arith), λ q. absurd (omega arith), λ q. absurd (omega arith))
+fault-of (too-long e f) = (λ q. (_, e, f), λ q. absurd (omega arith), λ q. absurd (omega arith))
+fault-of (padded e f) = (λ q. absurd (omega arith), λ q. (_, e, f), λ q. absurd (omega arith))
+fault-of (outside {due = d} e w o) = let n = range-number d in (λ q. absurd (omega arith), λ q. absurd (omega arith), λ q. absurd (omega arith))
+fault-of (follow e h) = (λ q. absurd (omega arith), λ q. absurd (omega arith), λ q. absurd (omega arith))
+fault-of (idle {t = t} e z) = (λ q. absurd (omega arith), λ q. absurd (omega arith), λ q. (refl, t, e, idle-edition e z, z))
 
 -- what is promised of the reader
 pub reading : OfReading
@@ -71,6 +74,7 @@ reading = record {
   refuses = λ bytes number place. (λ e. refused-rule bytes (refusal number place) e .0, outcome-of);
   long = λ bytes place. (λ e. fault-of (refused-rule bytes (refusal 2 place) e .0) .0 refl, λ f. outcome-of (too-long (f .1) (f .2)));
   padded = λ bytes place. (λ e. fault-of (refused-rule bytes (refusal 18 place) e .0) .1 refl, λ f. outcome-of (padded (f .1) (f .2)));
+  none-runs = λ bytes place. (λ e. fault-of (refused-rule bytes (refusal 21 place) e .0) .2 refl, λ (z, t, e, x, i). rw z (outcome-of (idle e i)));
   reads = λ bytes t. (read-spelt bytes t, spelt-read bytes);
   own = λ bytes number place f. let told = refused-told bytes (refusal number place) (outcome-of f) in (told .own, told .place);
   empty = refused-table;

@@ -8,6 +8,7 @@ use Rattle.sets.specs.Size.{sizeTo}
 use Rattle.sets.specs.Greatest.{greatest}
 use Rattle.sets.specs.Rule.{setOf}
 use Rattle.sets.specs.Without.{withoutMember}
+use Rattle.tables.specs.Runs.{allZero}
 use Rattle.numbers.specs.Number.{number, before}
 use Rattle.records.specs.Step.{andThen}
 use Rattle.records.specs.Ranged.{whole, ranged}
@@ -44,6 +45,6 @@ use Rattle.claims.specs.Starred.AllCome.{done, _also_}
 
 -- every line of the list
 pub all-come : Starred
-unfolding starred kindsTo afterCall afterCalls sheetText linesTo line field decimal digits admission entered placed asked isSound isSoundRow isNew allTo sumOf largestOf placeOf planCall onTask onTable frontWords nodeWords numeratorOf deadline offset density share deal numerator millionths triples isHeavy heavies heavyWork lightLength segments lengthOf cut next nextTo running runningIn runs threads begins ends endsAfter workOf pathOf loops some reach stages stage union inside smallest unlessNeeded ringAfter withoutMember readingOf nodes nothingFollows parentSet parents andThen ranged whole number before tab greatest setOf sizeTo bit sumTo maxTo upTo
+unfolding starred kindsTo afterCall afterCalls sheetText linesTo line field decimal digits admission entered placed asked isSound isSoundRow isNew allTo sumOf largestOf placeOf planCall onTask onTable frontWords nodeWords numeratorOf deadline offset density share deal numerator millionths triples isHeavy heavies heavyWork lightLength segments lengthOf cut next nextTo running runningIn runs threads begins ends endsAfter workOf pathOf loops some reach stages stage union inside smallest unlessNeeded ringAfter withoutMember readingOf nodes nothingFollows allZero parentSet parents andThen ranged whole number before tab greatest setOf sizeTo bit sumTo maxTo upTo
 all-come =
     refl also refl also refl also refl also refl also refl also refl also refl also refl also refl also refl also refl also refl also refl also refl also refl also refl also refl also refl also refl also refl also refl also refl also refl also refl also refl also done

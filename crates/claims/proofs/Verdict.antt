@@ -5,30 +5,22 @@ use mathlib.Core.List.{List, [], _∷_, List·Memᴰ·head, List·Memᴰ·tail}
 use Prim.Native.Nat.{ℕ, _<_}
 use native.Mathlib.Omega.{arith}
 use lib.ListN.{length, length-append}
-use Rattle.plain.specs.At.{at}
 use Rattle.tables.specs.declared.TaskTable.{TaskTable}
-use Rattle.shares.proofs.Densities.{near}
-use Rattle.plans.specs.Shares.{over, deadline, density}
+use Rattle.plans.specs.Shares.{density}
 use Rattle.plans.specs.Accepted.{Accepted}
+use Rattle.plans.proofs.Table.{plans-accepted}
 use Rattle.boards.specs.Nodes.{listed}
 use Rattle.boards.proofs.Fractions.{RoundedUp, Rounded, rounded-append}
 use Rattle.boards.proofs.Fractions.Rounded.{none}
 use Rattle.boards.proofs.Nodes.{rounded-listed, length-listed}
 use Rattle.claims.specs.Plan.{exactOf}
 use Rattle.claims.specs.Day.{Among, allNodes}
-use Rattle.claims.proofs.Plan.{good-plan}
+use Rattle.claims.proofs.Plan.{exact}
 use Rattle.claims.proofs.Standing.{sumsOf, maxOf}
 
 -- a node's density, rounded up
 rounded-node : {t : TaskTable} → Accepted t → (v : ℕ) → v < t .count → RoundedUp (exactOf t v) (density t v)
-unfolding density
-rounded-node {t} ok v h =
-    let good = good-plan ok in
-    record {
-      proper = good .proper v h;
-      enough = good .enough v h;
-      near = let n = near (at (t .execution) v) (over t) (deadline t v) in let low = good .proper v h in omega arith;
-    }
+rounded-node ok v h = exact (plans-accepted ok) v h .rounded
 
 -- all standing nodes
 pub rounded-tables : (ts : List TaskTable) → ((t : TaskTable) → Among t ts → Accepted t) → Rounded (allNodes ts) (sumsOf (λ r. r .sum) ts) (maxOf (λ r. r .largest) ts)

@@ -1,16 +1,18 @@
 -- "Timing diagram and segments", of every table without a loop: its starts, path, cuts and offsets are what document 01's sentences say, and
 -- nothing else is; so nobody has to trust the rounds and steps of their definitions.
 use mathlib.Core.Path.{_≡_}
-use Prim.Native.Nat.{ℕ, _+_, _≤_, _<_}
+use Prim.Native.Nat.{ℕ, suc, _+_, _≤_, _<_}
 use Rattle.plain.specs.At.{at}
+use Rattle.sets.specs.Member.{Member}
 use Rattle.sets.specs.Greatest.{greatest}
 use Rattle.tables.specs.declared.TaskTable.{TaskTable}
 use Rattle.tables.specs.Range.{InRange}
 use Rattle.ways.specs.Reaches.{Loops}
 use Rattle.segments.specs.Cut.{cut}
 use Rattle.segments.specs.Cutting.{Cutting}
+use Rattle.segments.specs.Running.{running}
 use Rattle.plans.specs.Diagram.{start, finish, path, segmentCount}
-use Rattle.plans.specs.Shares.{deadline, offset}
+use Rattle.plans.specs.Shares.{deadline, offset, density}
 
 -- each node's B is "0 without parents, else the greatest parent's" B plus W
 abbrev pub Follows : TaskTable → (W B : ℕ → ℕ) → Type 0
@@ -34,6 +36,12 @@ pub record IsLatest (n : ℕ) (F : ℕ → ℕ) (P : ℕ) : Type 0 where
   pub reached : (v : ℕ) × (v < n) × (F v ≡ P)
   pub most : (v : ℕ) → v < n → F v ≤ P
 
+-- "A node with 0 runs in no segment, has deadline 0, density 0 and the usual offset", which is that of `offsets` below
+pub record Join (t : TaskTable) (v : ℕ) : Type 0 where
+  pub no-segment : (j : ℕ) → j < segmentCount t → Member v (running (t .count) (start t) (finish t) j) → ⊥
+  pub no-deadline : deadline t v ≡ 0
+  pub no-density : density t v ≡ 0
+
 -- the sentences
 pub record Timed (t : TaskTable) : Type 0 where
   -- "A node without parents starts at 0; any other starts at the latest finish of its parents"
@@ -49,6 +57,10 @@ pub record Timed (t : TaskTable) : Type 0 where
   pub few-segments : segmentCount t ≤ t .count
   -- "Its offset is 0 without parents, else the greatest parent's offset plus deadline"
   pub offsets : Ruled t (deadline t) (offset t)
+  -- each node with execution 0 is a join
+  pub joins : (v : ℕ) → v < t .count → at (t .execution) v ≡ 0 → Join t v
+  -- and adds no cut: after 0, each cut is the finish of a node that runs
+  pub run-cuts : (j : ℕ) → j < segmentCount t → (v : ℕ) × (v < t .count) × (1 ≤ at (t .execution) v) × (finish t v ≡ cutOf t (suc j))
 
 -- they hold of every table in range in which no node is reached from itself, so also of those that 11 refuses
 abbrev pub TablesTimed : Type 0

@@ -12,19 +12,20 @@ use Rattle.refusals.specs.Refusal.{refusal, looped}
 use Rattle.refusals.specs.Readers.{isReaders}
 use Rattle.tables.specs.declared.TaskTable.{TaskTable}
 use Rattle.tables.specs.Table.{emptyTable}
+use Rattle.tables.specs.Runs.{AllZero}
 use Rattle.records.specs.Nodes.{tableRead}
 use Rattle.records.specs.Reading.{readingOf}
 use Rattle.numbers.specs.Number.{recordMore}
 use Rattle.numbers.specs.Form.{Long, Padded}
 use Rattle.records.specs.Expected.{Due, Expects, Refuses, Spells}
-use Rattle.records.specs.Expected.Next.{number}
+use Rattle.records.specs.Expected.Next.{number, nothing}
 use Rattle.rings.specs.Ring.{ring}
 use Rattle.rings.specs.Round.{Smallest, Round}
 use Rattle.plans.specs.Diagram.{path}
 use Rattle.plans.specs.Calls.{taskOf}
 use Rattle.claims.specs.Rule.{Rule, rule}
 
--- the reader's refusals "as met": what is expected at a place that was reached has a fault, or bytes follow
+-- the reader's refusals "as met": what is expected at a place that was reached has a fault, bytes follow, or all executions are 0
 abbrev pub readerRule : List ℕ → Rule
 readerRule bytes r = (number : ℕ) × (place : ℕ) × Refuses bytes number place × (r ≡ refusal number place)
 
@@ -49,6 +50,10 @@ pub record NamesLoop (t : TaskTable) (answer : Answer) : Type 0 where
 abbrev pub Faulty : (fault : List ℕ → Type 0) → (bytes : List ℕ) (place : ℕ) → Type 0
 Faulty fault bytes place = (due : Due) × Expects bytes place (number due) × fault (drop place bytes)
 
+-- every number is fine, nothing follows, and "all executions are 0", which edition 2 alone lets them be; told at 0
+abbrev pub NoneRuns : (bytes : List ℕ) (place : ℕ) → Type 0
+NoneRuns bytes place = (place ≡ 0) × (t : TaskTable) × Expects bytes (length bytes) (nothing t) × (t .edition ≡ 2) × AllZero t
+
 -- what is promised of the reader
 pub record OfReading : Type 0 where
   -- it refuses a record by a number at a place exactly where a rule of the table gives that
@@ -56,7 +61,9 @@ pub record OfReading : Type 0 where
   -- 2 exactly where "a fourth byte has its top bit set", and 18 exactly where "the form isn't the shortest", at that number
   pub long : (bytes : List ℕ) (place : ℕ) → (readingOf bytes .outcome ≡ Refused (refusal 2 place)) ↔ Faulty (Long recordMore) bytes place
   pub padded : (bytes : List ℕ) (place : ℕ) → (readingOf bytes .outcome ≡ Refused (refusal 18 place)) ↔ Faulty (Padded recordMore) bytes place
-  -- it reads a table exactly from a record whose numbers are all fine and spell it
+  -- 21 exactly where no node runs
+  pub none-runs : (bytes : List ℕ) (place : ℕ) → (readingOf bytes .outcome ≡ Refused (refusal 21 place)) ↔ NoneRuns bytes place
+  -- it reads a table exactly from a record whose numbers are all fine and spell it, and of which some node runs
   pub reads : (bytes : List ℕ) (t : TaskTable) → (readingOf bytes ≡ tableRead t) ↔ Spells bytes t
   -- its refusals are its own numbers, at a byte of the record or at its end
   pub own : (bytes : List ℕ) (number place : ℕ) → Refuses bytes number place → (isReaders number ≡ true) × (place ≤ length bytes)

@@ -19,7 +19,7 @@ use Rattle.sets.proofs.Bits.{bit-le, mem-lt, mem-or, same-bits}
 use Rattle.sets.proofs.Sizes.{size-full, length-members}
 use Rattle.sets.proofs.Rule.{bit-past, bit-set}
 use Rattle.tables.specs.declared.TaskTable.{TaskTable}
-use Rattle.tables.specs.Limits.{countMax, executionMax}
+use Rattle.tables.specs.Limits.{countMax, executionMax, leastExecution}
 use Rattle.tables.specs.Range.{InRange}
 use Rattle.records.specs.Nodes.{tableRead, withNode}
 use Rattle.records.specs.Reading.{readingOf}
@@ -71,7 +71,7 @@ module _ (T u : TaskTable) (i e w : ℕ) (h : w < 2 ^ T .count) where
       (mem-or d w)
 
 -- a node is told, and then what comes after it
-tells-node : (T u : TaskTable) (i e w : ℕ) (ws : List ℕ) → T .count ≤ countMax → w < 2 ^ T .count → 1 ≤ e → e ≤ executionMax →
+tells-node : (T u : TaskTable) (i e w : ℕ) (ws : List ℕ) → T .count ≤ countMax → w < 2 ^ T .count → leastExecution (T .edition) ≤ e → e ≤ executionMax →
     Tells (nodeFrom (withNode T i e w) (i + 1)) ws u → Tells (number (execution T i)) (nodeNumbers e w ++ ws) u
 tells-node T u i e w ws c h l m x =
     let p = tells-members T u i e w h countMax 0 ws λ low _. rw (digits-word w (lt-of-lt-of-le h (pow-mono c))) x in
@@ -100,13 +100,13 @@ fillTo-all l n h e past = let f = fillTo-filled l n h in
 
 -- the table with the nodes before node i
 soFar : TaskTable → ℕ → TaskTable
-soFar t i = record { id = t .id; period = t .period; count = t .count; execution = fillTo (t .execution) i; parents = fillTo (t .parents) i }
+soFar t i = record { edition = t .edition; id = t .id; period = t .period; count = t .count; execution = fillTo (t .execution) i; parents = fillTo (t .parents) i }
 
 module _ (t : TaskTable) (r : InRange t) (h : Full t) where
   tells-from : (i : ℕ) → i ≤ t .count → (ws : List ℕ) → Tells (nodeFrom (soFar t i) i) ws t → Tells (number edition) (numbersTo t i ++ ws) t
   unfolding numbersTo soFar fillTo
   tells-from zero l ws p =
-      one (le-refl 1) (le-refl 1) (one (r .id-low) (r .id-high) (one (r .period-low) (r .period-high) (one (r .count-low) (r .count-high) p)))
+      one (r .edition-low) (r .edition-high) (one (r .id-low) (r .id-high) (one (r .period-low) (r .period-high) (one (r .count-low) (r .count-high) p)))
   tells-from (suc i) l ws p =
       let e = at (t .execution) i in let w = at (t .parents) i in
       let q = tells-node (soFar t i) t i e w ws (r .count-high) (r .parents-below i) (r .execution-low i l) (r .execution-high i) (rw (add-one i) p) in
@@ -115,7 +115,7 @@ module _ (t : TaskTable) (r : InRange t) (h : Full t) where
 
   soFar-all : soFar t (t .count) ≡ t
   unfolding soFar
-  soFar-all = ap₂ (λ (a b : List ℕ). record { id = t .id; period = t .period; count = t .count; execution = a; parents = b })
+  soFar-all = ap₂ (λ (a b : List ℕ). record { edition = t .edition; id = t .id; period = t .period; count = t .count; execution = a; parents = b })
       (fillTo-all (t .execution) (t .count) (r .count-high) (h .0) (r .execution-past))
       (fillTo-all (t .parents) (t .count) (r .count-high) (h .1) (r .parents-past))
 
@@ -123,4 +123,4 @@ module _ (t : TaskTable) (r : InRange t) (h : Full t) where
   pub record-read : readingOf (recordOf t) ≡ tableRead t
   record-read =
       let last : Tells (nodeFrom t (t .count)) [] t = rw (le-ltb (t .count) (t .count) (le-refl (t .count))) end in
-      written-read _ t (rw (append-nil (numbersTo t (t .count))) at (tells-from (t .count) (le-refl (t .count)) [] (rw soFar-all last)))
+      written-read _ t (rw (append-nil (numbersTo t (t .count))) at (tells-from (t .count) (le-refl (t .count)) [] (rw soFar-all last))) (r .some-runs)

@@ -2,7 +2,7 @@
 use Prim.Native.Nat.{ℕ, zero, suc, _+_, _-_, _^_, _≤_, _<_}
 use mathlib.Core.Path.{_≡_, refl, sym, ap, _∙_}
 use mathlib.Core.Logic.{_⊎_, ⊎-elim}
-use mathlib.Core.Bool.{and-false}
+use mathlib.Core.Bool.{true, false, and-false}
 use mathlib.Core.List.{List, [], _∷_}
 use native.Mathlib.Omega.{arith}
 use lib.ListN.{length, take, drop}
@@ -10,9 +10,10 @@ use borrow.Author.Tests.{le-leb, lt-leb, le-ltb, lt-ltb}
 use types.Run.{OneOf}
 use denote.Enum.Declared.{tagOf}
 use Rattle.refusals.specs.declared.Refusal.{Refusal}
-use Rattle.refusals.specs.Numbers.{badExecution, badParent, bytesFollow}
+use Rattle.refusals.specs.Numbers.{badExecution, badParent, bytesFollow, noneRuns}
 use Rattle.tables.specs.declared.TaskTable.{TaskTable}
-use Rattle.tables.specs.Limits.{executionMax}
+use Rattle.tables.specs.Limits.{executionMax, leastExecution}
+use Rattle.tables.specs.Runs.{allZero}
 use Rattle.numbers.proofs.Number.{the-type}
 use Rattle.plain.proofs.Lists.{part-from}
 use Rattle.numbers.specs.declared.Number.{Number}
@@ -26,7 +27,7 @@ use Rattle.records.specs.declared.Two.{Two}
 use Rattle.records.specs.Inner.Two.{twoOf}
 use Rattle.records.specs.Ranged.{stepOf, whole, ranged}
 use Rattle.records.specs.Parents.{parents, parentSet}
-use Rattle.records.specs.Nodes.{tableRead, noTable, withNode, nothingFollows, nodes}
+use Rattle.records.specs.Nodes.{tableRead, noTable, withNode, unlessAllZero, nothingFollows, nodes}
 
 -- a step that read, and one that refused
 pub then-read : {A : Type 0} (out : Refusal → A) (step : Step) (more : ℕ → ℕ → A) (v next : ℕ) → step ≡ Read v next →
@@ -107,15 +108,21 @@ module _ (n low set : ℕ) (s : List ℕ) (at : ℕ) where
       parents k n low set s at ≡ parents (k - 1) n (p + 1) (set + 2 ^ p) s next
   parents-next k p next h e = parents-more k h ∙ then-read _ _ _ _ _ e
 
--- a byte follows, and none does
+-- a byte follows; none does, and by the last test no node runs, or some does
 module _ (t : TaskTable) (s : List ℕ) (at : ℕ) where
   pub some-follow : at < length s → nothingFollows t s at ≡ noTable (refusal bytesFollow at)
   unfolding nothingFollows
   some-follow h = simp (lt-ltb _ _ h)
 
-  pub none-follow : length s ≤ at → nothingFollows t s at ≡ tableRead t
+  none-follow : length s ≤ at → nothingFollows t s at ≡ unlessAllZero t
   unfolding nothingFollows
   none-follow h = simp (le-ltb _ _ h)
+
+  pub none-runs : length s ≤ at → allZero (t .execution) (t .count) ≡ true → nothingFollows t s at ≡ noTable (refusal noneRuns 0)
+  none-runs h e = none-follow h ∙ rw e
+
+  pub some-run : length s ≤ at → allZero (t .execution) (t .count) ≡ false → nothingFollows t s at ≡ tableRead t
+  some-run h e = none-follow h ∙ rw e
 
 -- of n nodes none is left, and one more is
 module _ (i n : ℕ) (t : TaskTable) (s : List ℕ) (at : ℕ) where
@@ -124,7 +131,7 @@ module _ (i n : ℕ) (t : TaskTable) (s : List ℕ) (at : ℕ) where
   nodes-none h = let e : n - i ≡ 0 = omega arith in rw (e, nodes)
 
   pub nodes-more : i < n → t .count ≡ n → nodes (n - i) i t s at ≡
-      andThen noTable (ranged badExecution 1 executionMax s at) λ e at₁.
+      andThen noTable (ranged badExecution (leastExecution (t .edition)) executionMax s at) λ e at₁.
       andThen noTable (parentSet n s at₁) λ w at₂.
       nodes (n - (i + 1)) (i + 1) (withNode t i e w) s at₂
   unfolding nodes

@@ -1,7 +1,7 @@
 -- The reader's refusals by their rules. What the definition of reading still does from a place on depends only on what is expected there; so along
 -- the numbers that are fine it is the reading of what is left. Every number is fine or is not, each fine one takes a byte at least, and so
 -- every input comes to a refusal or to its table.
-use Prim.Native.Nat.{ℕ, zero, suc, _+_, _-_, _^_, _≤_, _<_}
+use Prim.Native.Nat.{ℕ, zero, suc, _+_, _-_, _^_, _≤_, _<_, zero-le}
 use mathlib.Core.Path.{_≡_, refl, sym, ap, subst, _∙_}
 use mathlib.Core.Logic.{inl, inr, ⊎-elim}
 use mathlib.Core.Bool.{Bool, true, false}
@@ -19,7 +19,9 @@ use Rattle.refusals.specs.declared.Outcome.the-variants as outcome
 use Rattle.refusals.specs.Numbers.{ended, tooLong, badEdition, badId, badPeriod, badCount, badExecution, notShortest}
 use Rattle.refusals.specs.Readers.{isIn, isReaders}
 use Rattle.tables.specs.declared.TaskTable.{TaskTable}
-use Rattle.tables.specs.Limits.{idMax, periodMax, countMax, executionMax}
+use Rattle.tables.specs.Limits.{editionMax, idMax, periodMax, countMax, executionMax, leastExecution}
+use Rattle.tables.specs.Runs.{allZero}
+use Rattle.tables.proofs.Runs.{zero-all, all-zero, runs-some, some-runs}
 use Rattle.numbers.specs.Number.{recordMore}
 use Rattle.numbers.specs.Form.{Whole, Ends, Long, Padded}
 use Rattle.numbers.proofs.Forms as forms
@@ -36,8 +38,8 @@ use Rattle.records.specs.Expected.{Due, range, Next, nodeFrom, parentFro
 use Rattle.records.specs.Expected.Due.{edition, id, period, count, execution, parentCount, parent}
 use Rattle.records.specs.Expected.Next.{number, nothing}
 use Rattle.records.specs.Expected.Expects.{begin, on}
-use Rattle.records.specs.Expected.Refuses.{ends, long, padded, outside, follow}
-use Rattle.records.proofs.Cases.{then-read, then-refused, ranged-refused, ranged-out, ranged-in, some-follow, none-follow, nodes-none, nodes-more}
+use Rattle.records.specs.Expected.Refuses.{ends, long, padded, outside, follow, idle}
+use Rattle.records.proofs.Cases.{then-read, then-refused, ranged-refused, ranged-out, ranged-in, some-follow, none-runs, some-run, nodes-none, nodes-more}
 
 -- the same after every value, and a step in a step
 then-same : {A : Type 0} (out : Refusal → A) (step : Step) (more instead : ℕ → ℕ → A) → ((v next : ℕ) → more v next ≡ instead v next) →
@@ -53,25 +55,25 @@ then-then out (Read v next) then more = refl
 then-then out (Refused r) then more = refl
 
 -- what reading still does from a place on: from the node count, from the period, from the id, after a node's parents
-fromCount : ℕ → ℕ → List ℕ → ℕ → Reading
-fromCount d p s at = andThen noTable (ranged badCount 1 countMax s at) λ n next. nodes n 0 (headed d p n) s next
+fromCount : ℕ → ℕ → ℕ → List ℕ → ℕ → Reading
+fromCount x d p s at = andThen noTable (ranged badCount 1 countMax s at) λ n next. nodes n 0 (headed x d p n) s next
 
-fromPeriod : ℕ → List ℕ → ℕ → Reading
-fromPeriod d s at = andThen noTable (ranged badPeriod 1 periodMax s at) λ p next. fromCount d p s next
+fromPeriod : ℕ → ℕ → List ℕ → ℕ → Reading
+fromPeriod x d s at = andThen noTable (ranged badPeriod 1 periodMax s at) λ p next. fromCount x d p s next
 
-fromId : List ℕ → ℕ → Reading
-fromId s at = andThen noTable (ranged badId 1 idMax s at) λ d next. fromPeriod d s next
+fromId : ℕ → List ℕ → ℕ → Reading
+fromId x s at = andThen noTable (ranged badId 1 idMax s at) λ d next. fromPeriod x d s next
 
 fromNext : List ℕ → TaskTable → (i e w next : ℕ) → Reading
 fromNext s t i e w next = nodes (t .count - (i + 1)) (i + 1) (withNode t i e w) s next
 
 onward : List ℕ → ℕ → Next → Reading
-onward s at (number edition) = andThen noTable (ranged badEdition 1 1 s at) λ _ next. fromId s next
-onward s at (number id) = fromId s at
-onward s at (number (period d)) = fromPeriod d s at
-onward s at (number (count d p)) = fromCount d p s at
+onward s at (number edition) = andThen noTable (ranged badEdition 1 editionMax s at) λ x next. fromId x s next
+onward s at (number (id x)) = fromId x s at
+onward s at (number (period x d)) = fromPeriod x d s at
+onward s at (number (count x d p)) = fromCount x d p s at
 onward s at (number (execution t i)) =
-    andThen noTable (ranged badExecution 1 executionMax s at) λ e next. andThen noTable (parentSet (t .count) s next) (fromNext s t i e)
+    andThen noTable (ranged badExecution (leastExecution (t .edition)) executionMax s at) λ e next. andThen noTable (parentSet (t .count) s next) (fromNext s t i e)
 onward s at (number (parentCount t i e)) = andThen noTable (parentSet (t .count) s at) (fromNext s t i e)
 onward s at (number (parent t i e left low set)) = andThen noTable (parents (suc left) (t .count) low set s at) (fromNext s t i e)
 onward s at (nothing t) = nothingFollows t s at
@@ -96,10 +98,10 @@ onward-step : (s : List ℕ) (at : ℕ) (d : Due) →
     onward s at (number d) ≡ andThen noTable (ranged (range d .broken) (range d .low) (range d .high) s at) (λ v next. onward s next (after d v))
 unfolding onward fromId fromPeriod fromCount parentSet parents
 onward-step s at edition = refl
-onward-step s at id = refl
-onward-step s at (period d) = refl
-onward-step s at (count d p) = then-same _ _ _ _ λ n next.
-    let e : n ≡ n - 0 = omega arith in ap (λ (k : ℕ). nodes k 0 (headed d p n) s next) e ∙ node-onward s next (headed d p n) 0
+onward-step s at (id x) = refl
+onward-step s at (period x d) = refl
+onward-step s at (count x d p) = then-same _ _ _ _ λ n next.
+    let e : n ≡ n - 0 = omega arith in ap (λ (k : ℕ). nodes k 0 (headed x d p n) s next) e ∙ node-onward s next (headed x d p n) 0
 onward-step s at (execution t i) = refl
 onward-step s at (parentCount t i e) = then-then _ _ _ _ ∙ then-same _ _ _ _ λ k next. parent-onward s next t i e k 0 0
 onward-step s at (parent t i e left low set) = then-then _ _ _ _ ∙ then-same _ _ _ _ λ p next. parent-onward s next t i e left (p + 1) (set + 2 ^ p)
@@ -141,10 +143,11 @@ module _ (s : List ℕ) where
   rule-refused (padded {place = at} e f) = stops e (ranged-refused _ _ _ s at _ (padded-read s at f))
   rule-refused (outside {place = at} e w o) = stops e (ranged-out _ _ _ s at _ _ (whole-read s at w) o)
   rule-refused (follow {place = at} {t = t} e h) = reached e ∙ some-follow t s at h
+  rule-refused (idle {t = t} e z) = reached e ∙ none-runs t s (length s) (le-refl (length s)) (zero-all (t .execution) (t .count) z)
 
   pub spelt-read : {t : TaskTable} → Spells s t → readingOf s ≡ tableRead t
   unfolding onward
-  spelt-read {t} e = reached e ∙ none-follow t s (length s) (omega arith)
+  spelt-read {t} (e, runs) = reached e ∙ some-run t s (length s) (le-refl (length s)) (runs-some (t .execution) (t .count) (runs .0) (runs .1) (runs .2))
 
   -- a place that is reached is inside the input
   pub reached-inside : {at : ℕ} {next : Next} → Expects s at next → at ≤ length s
@@ -152,7 +155,7 @@ module _ (s : List ℕ) where
   reached-inside (on {place = at} e w l h) = omega (arith, reached-inside e, forms.form-within (w .0), length-drop at s)
 
   -- what an input comes to
-  data Comes : Type 0 where
+  pub data Comes : Type 0 where
     refuses : {k place : ℕ} → Refuses s k place → Comes
     spells : {t : TaskTable} → Spells s t → Comes
 
@@ -160,8 +163,12 @@ module _ (s : List ℕ) where
   comes-at : (at : ℕ) (next : Next) → Expects s at next → ((later : ℕ) (next : Next) → at < later → Expects s later next → Comes) → Comes
   comes-at at (nothing t) e again = ⊎-elim
       (λ (h : at < length s). refuses (follow e h))
-      (λ (h : length s ≤ at). let q : at ≡ length s = omega (arith, reached-inside e) in spells (rw q at e))
+      (λ (h : length s ≤ at). let q : at ≡ length s = omega (arith, reached-inside e) in by (rw q at e) (allZero (t .execution) (t .count)) refl)
       (lt-or-ge at (length s))
+    where
+      by : Expects s (length s) (nothing t) → (b : Bool) → allZero (t .execution) (t .count) ≡ b → Comes
+      by e true z = refuses (idle e (all-zero (t .execution) (t .count) z))
+      by e false z = spells (e, some-runs (t .execution) (t .count) z)
   comes-at at (number d) e again = by (forms.found recordMore (drop at s))
     where
       by : forms.Found recordMore (drop at s) → Comes
@@ -181,7 +188,7 @@ module _ (s : List ℕ) where
   comes-from zero at next b e = comes-at at next e λ later next l f. absurd (omega (arith, reached-inside f))
   comes-from (suc left) at next b e = comes-at at next e λ later next l f. comes-from left later next (omega arith) f
 
-  comes : Comes
+  pub comes : Comes
   comes = comes-from (length s) 0 (number edition) (omega arith) begin
 
   -- by a rule of the reader's, with nothing beside its number and place
@@ -213,9 +220,9 @@ pub record Told (size : ℕ) (r : Refusal) : Type 0 where
 own-range : (d : Due) → isReaders (range d .broken) ≡ true
 unfolding isIn
 own-range edition = refl
-own-range id = refl
-own-range (period d) = refl
-own-range (count d p) = refl
+own-range (id x) = refl
+own-range (period x d) = refl
+own-range (count x d p) = refl
 own-range (execution t i) = refl
 own-range (parentCount t i e) = refl
 own-range (parent t i e left low set) = refl
@@ -227,6 +234,7 @@ rule-told (long e f) = record { own = refl; place = reached-inside _ e }
 rule-told (padded e f) = record { own = refl; place = reached-inside _ e }
 rule-told (outside {due = d} e w o) = record { own = own-range d; place = reached-inside _ e }
 rule-told (follow e h) = record { own = refl; place = reached-inside _ e }
+rule-told (idle e z) = record { own = refl; place = zero-le }
 
 pub refused-told : (s : List ℕ) (r : Refusal) → readingOf s .outcome ≡ outcome.Refused r → Told (length s) r
 refused-told s r q = let w = refused-rule s r q in rw (w .1) (rule-told (w .0))

@@ -11,7 +11,6 @@ use lib.Dec.{leb}
 use lib.Pow.{pow-lt, pow-mono}
 use borrow.Author.Tests.{leb-true}
 use Rattle.plain.specs.Pick.{pick}
-use Rattle.refusals.specs.declared.Refusal.{Refusal}
 use Rattle.refusals.specs.Numbers.{badParent}
 use Rattle.numbers.specs.declared.Number.{Number}
 use Rattle.numbers.specs.declared.Number.the-variants.{Value, Ended, TooLong, NotShortest}
@@ -32,21 +31,13 @@ abbrev pub Inside : ℕ → (ℕ → Type 0) → Step → Type 0
 Inside size P (Read v next) = P v × (next ≤ size)
 Inside size P (Refused r) = Unit
 
--- what holds of every refusal, and of what comes after every value, holds of both together
-pub then-inside : {A : Type 0} (Q : A → Type 0) (size : ℕ) (P : ℕ → Type 0) (out : Refusal → A) (step : Step) (more : ℕ → ℕ → A) →
-    Inside size P step →
-    ((r : Refusal) → Q (out r)) →
-    ((v next : ℕ) → P v → next ≤ size → Q (more v next)) →
-    Q (andThen out step more)
-unfolding andThen
-then-inside Q size P out (Read v next) more i t m = m v next (i .0) (i .1)
-then-inside Q size P out (Refused r) more i t m = t r
-
 -- a step after a step
 then-step : (size : ℕ) (P Q : ℕ → Type 0) (step : Step) (more : ℕ → ℕ → Step) → Inside size P step →
     ((v next : ℕ) → P v → next ≤ size → Inside size Q (more v next)) →
     Inside size Q (andThen Refused step more)
-then-step size P Q step more i m = then-inside (Inside size Q) size P Refused step more i (λ r. tt) m
+unfolding andThen
+then-step size P Q (Read v next) more i m = m v next (i .0) (i .1)
+then-step size P Q (Refused r) more i m = tt
 
 -- a step that read
 pub read-inside : (size : ℕ) (P : ℕ → Type 0) (step : Step) (v next : ℕ) → step ≡ Read v next → Inside size P step → P v × (next ≤ size)

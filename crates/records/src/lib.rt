@@ -8,6 +8,7 @@ ghost use Prim.Native.Nat.{_≤_, _<_};
 ghost use lib.ListN.{length};
 ghost use Rattle.tables.specs.Limits.{countMax};
 ghost use Rattle.tables.specs.Table.{emptyTable};
+ghost use Rattle.tables.specs.Runs.{allZero};
 ghost use Rattle.refusals.specs.Refusal.{refusal};
 ghost use Rattle.records.specs.Step.{andThen};
 ghost use Rattle.records.specs.Ranged.{whole, ranged};
@@ -33,8 +34,6 @@ pub struct Reading {
     pub outcome: Outcome,
     pub table: TaskTable,
 }
-
-const EDITION: u64 = 1;
 
 fn refuse(number: u64, place: usize) -> Step
     ensures { λ r. ⌜ r ≡ Step.Refused (refusal number place) ⌝ }
@@ -147,12 +146,16 @@ fn rejected(step: Step) -> Reading
     }
 }
 
-// A whole table, where no byte follows it.
-fn nothing_follows(bytes: &[u8], at: usize, table: TaskTable) -> Reading
+// A whole table, where no byte follows it and it is not idle, which it is where all executions are 0.
+fn nothing_follows(bytes: &[u8], at: usize, idle: bool, table: TaskTable) -> Reading
+    requires { ⌜ idle ≡ allZero (table .execution) (table .count) ⌝ }
     ensures { λ r. ⌜ r ≡ nothingFollows table (now (bytes .entry)) at ⌝ }
 {
     if at < bytes.len() {
         return rejected(refuse(Refusal::BYTES_FOLLOW, at));
+    }
+    if idle {
+        return rejected(refuse(Refusal::NONE_RUNS, 0));
     }
     Reading {
         outcome: Outcome::Accepted,
@@ -166,6 +169,7 @@ fn read_nodes(bytes: &[u8], from: usize, head: TaskTable) -> Reading
     ensures { λ r. ⌜ r ≡ nodes (head .count) 0 head (now (bytes .entry)) from ⌝ }
 {
     let n = head.count;
+    let least = tables::least_execution(head.edition);
     let mut table = head;
     let mut at = from;
     let mut i: usize = 0;
@@ -174,7 +178,7 @@ fn read_nodes(bytes: &[u8], from: usize, head: TaskTable) -> Reading
             bytes,
             at,
             Refusal::BAD_EXECUTION,
-            1,
+            least,
             TaskTable::EXECUTION_MAX,
         );
         let Step::Read {
@@ -185,19 +189,16 @@ fn read_nodes(bytes: &[u8], from: usize, head: TaskTable) -> Reading
             return rejected(first);
         };
         let second = read_parent_set(bytes, after, n as u64);
-        let Step::Read {
-            value: parents,
-            next,
-        } = second
-        else {
+        let Step::Read { value: set, next } = second else {
             return rejected(second);
         };
         table.execution[i] = execution;
-        table.parents[i] = parents;
+        table.parents[i] = set;
         at = next;
         i += 1;
     }
-    nothing_follows(bytes, at, table)
+    let idle = tables::all_zero(&table.execution, n);
+    nothing_follows(bytes, at, idle, table)
 }
 
 // The table that a record holds, or the refusal of the first rule that it breaks.
@@ -208,7 +209,7 @@ pub fn read_record(bytes: &[u8]) -> Reading
         bytes,
         0,
         Refusal::BAD_EDITION,
-        EDITION,
+        TaskTable::EDITION_MAX,
         Refusal::BAD_ID,
         TaskTable::ID_MAX,
     );
@@ -229,6 +230,7 @@ pub fn read_record(bytes: &[u8]) -> Reading
         return rejected(second);
     };
     let table = TaskTable {
+        edition: named.value,
         id,
         period: timed.value,
         count: count as usize,

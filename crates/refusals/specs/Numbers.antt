@@ -9,7 +9,7 @@ ended = 1
 abbrev pub tooLong : ℕ
 tooLong = 2
 
--- edition isn't 1
+-- edition is neither 1 nor 2
 abbrev pub badEdition : ℕ
 badEdition = 3
 
@@ -72,3 +72,7 @@ unsoundBoard = 17
 -- the form isn't the shortest
 abbrev pub notShortest : ℕ
 notShortest = 18
+
+-- all executions are 0
+abbrev pub noneRuns : ℕ
+noneRuns = 21

@@ -31,7 +31,7 @@ pub struct Kinds {
     pub length: u64,
 }
 
-// A node's density in millionths, rounded up; 0 for a node that gets nothing.
+// A node's density in millionths, rounded up; 0 for a join, which gets nothing.
 pub fn millionths(execution: u64, over: u64, numerator: u64) -> u64
     requires { ⌜ DensityIn execution over numerator ⌝ }
     ensures { λ r. ⌜ r ≡ millionths execution over numerator ⌝ }

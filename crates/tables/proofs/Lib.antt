@@ -1,1 +1,2 @@
 pub mod Plannable
+pub mod Runs

@@ -1,4 +1,4 @@
--- A table in range can be planned: its first node runs, since the count and every execution are at least 1.
+-- A table in range can be planned, whatever its edition: of the executions planning asks only that some node runs and none is above `runMax`.
 use Rattle.tables.specs.declared.TaskTable.{TaskTable}
 use Rattle.tables.specs.Range.{InRange}
 use Rattle.tables.specs.Inner.Plannable.{Plannable}
@@ -9,7 +9,7 @@ plannable r = record {
   id-high = r .id-high;
   period-high = r .period-high;
   count-high = r .count-high;
-  some-runs = (0, r .count-low, r .execution-low 0 (r .count-low));
+  some-runs = r .some-runs;
   run-high = r .execution-high;
   parents-below = r .parents-below;
   parents-past = r .parents-past;

@@ -1,4 +1,5 @@
 pub mod Limits
 pub mod Table
+pub mod Runs
 pub mod Range
 pub mod Inner

@@ -1,5 +1,11 @@
 -- The limits of a task record and of a density, each named once.
 use Prim.Native.Nat.{ℕ, _*_}
+use lib.Dec.{eqb}
+use Rattle.plain.specs.Pick.{pick}
+
+-- the last edition: 3 refuses what is "neither 1 nor 2"
+abbrev pub editionMax : ℕ
+editionMax = 2
 
 -- "task id (1..65,535)"
 abbrev pub idMax : ℕ
@@ -16,6 +22,10 @@ countMax = 64
 -- "its execution (1..65,535)"
 abbrev pub executionMax : ℕ
 executionMax = 65535
+
+-- "Edition 2 lets an execution be 0; edition 1 keeps its rule": the least execution
+abbrev pub leastExecution : (edition : ℕ) → ℕ
+leastExecution edition = pick (eqb edition 1) 1 0
 
 -- "It is kept in millionths"
 abbrev pub million : ℕ

@@ -1,10 +1,13 @@
 // The table of one task: what a record says, by value.
 ghost use mathlib.Core.Path.{_≡_};
-ghost use Rattle.tables.specs.Limits.{idMax, periodMax, countMax, executionMax, million};
+ghost use Prim.Native.Nat.{_≤_};
+ghost use Rattle.tables.specs.Limits.{editionMax, idMax, periodMax, countMax, executionMax, leastExecution, million};
 ghost use Rattle.tables.specs.Table.{emptyTable};
+ghost use Rattle.tables.specs.Runs.{allZero};
 
 // A parent set is one word: bit p of parents[v] is set where v waits for p.
 pub struct TaskTable {
+    pub edition: u64,
     pub id: u64,
     pub period: u64,
     pub count: usize,
@@ -16,6 +19,8 @@ pub struct TaskTable {
 pub const MILLION: u64 = 1_000_000;
 
 impl TaskTable {
+    pub const EDITION_MAX: u64 = 2;
+
     pub const ID_MAX: u64 = 65535;
 
     pub const PERIOD_MAX: u64 = 16777215;
@@ -28,6 +33,7 @@ impl TaskTable {
         ensures { λ r. ⌜ r ≡ emptyTable ⌝ }
     {
         Self {
+            edition: 0,
             id: 0,
             period: 0,
             count: 0,
@@ -37,8 +43,34 @@ impl TaskTable {
     }
 }
 
+// The least execution of an edition: from edition 2 on a node may be a join, which runs for no time.
+pub fn least_execution(edition: u64) -> u64
+    ensures { λ r. ⌜ r ≡ leastExecution edition ⌝ }
+{
+    if edition == 1 {
+        return 1;
+    }
+    0
+}
+
+// Whether all of n executions are 0.
+pub fn all_zero(executions: &[u64; 64], n: usize) -> bool
+    requires { ⌜ n ≤ countMax ⌝ }
+    ensures { λ r. ⌜ r ≡ allZero (now (executions .entry)) n ⌝ }
+{
+    let mut v: usize = 0;
+    while v < n {
+        if executions[v] != 0 {
+            return false;
+        }
+        v += 1;
+    }
+    true
+}
+
 // Each constant is the limit that specs/ gives the name.
 pub fn limits_named()
+    ensures { λ _. do ⌜ (← ⟦TaskTable::EDITION_MAX⟧ .entry) ≡ editionMax ⌝ }
     ensures { λ _. do ⌜ (← ⟦TaskTable::ID_MAX⟧ .entry) ≡ idMax ⌝ }
     ensures { λ _. do ⌜ (← ⟦TaskTable::PERIOD_MAX⟧ .entry) ≡ periodMax ⌝ }
     ensures { λ _. do ⌜ (← ⟦TaskTable::COUNT_MAX⟧ .entry) ≡ countMax ⌝ }

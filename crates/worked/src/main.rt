@@ -159,6 +159,33 @@ const LISTING: [u64; 21] = [
     416667,
 ];
 
+const JOINED: [u64; 24] = [
+    7,
+    3,
+    4,
+    2,
+    2,
+    40,
+    1,
+    2,
+    20,
+    1,
+    1,
+    10,
+    0,
+    40,
+    350000,
+    0,
+    60,
+    466667,
+    60,
+    0,
+    0,
+    60,
+    10,
+    700000,
+];
+
 // The tables that are not starred, and the two numbers written out.
 fn tables() {
     planned(
@@ -202,6 +229,34 @@ fn plan_slips() {
     );
 }
 
+// The slips of a join, which runs for no time.
+fn join_slips() {
+    planned(
+        b"a join cuts nothing and has no time, and its child begins with it",
+        b"\x02\x09\x0a\x04\x02\x00\x04\x00\x00\x02\x00\x01\x01\x01\x02",
+        &JOINED,
+    );
+    refused(b"edition 1 has no joins", b"\x01\x07\x09\x01\x00\x00", 7, 4);
+    refused(
+        b"one join alone: nothing runs",
+        b"\x02\x07\x09\x01\x00\x00",
+        21,
+        0,
+    );
+    refused(
+        b"a byte after one join alone: 9 before 21",
+        b"\x02\x07\x09\x01\x00\x00\x00",
+        9,
+        6,
+    );
+    refused(
+        b"one join that is its own parent: 21 before 10",
+        b"\x02\x07\x09\x01\x00\x01\x00",
+        21,
+        0,
+    );
+}
+
 // The slips of a board, of a reader, and of a loop.
 fn other_slips() {
     not_withdrawn(b"id 0 finds no free row to withdraw", 0);
@@ -234,5 +289,6 @@ fn other_slips() {
 fn main() {
     tables();
     plan_slips();
+    join_slips();
     other_slips();
 }

@@ -1,6 +1,6 @@
 //! The tasks and boards that are measured.
 
-use ffi::task::{chain, dense, fork, Node, Task};
+use ffi::task::{chain, dense, fork, ring, Node, Task};
 use reference::Row;
 use std::iter;
 
@@ -23,12 +23,6 @@ pub const SHAPES: [Shape; 5] = [
 /// Not to be planned: each node waits for the one before, node 0 for the last.
 pub const RING: Shape = ("ring", ring);
 
-fn ring(count: u64) -> Vec<Vec<u64>> {
-    (0..count)
-        .map(|node| vec![(node + count - 1) % count])
-        .collect()
-}
-
 /// A chain whose last step is node 0: a search for the next step that goes up
 /// the node numbers has the longest way.
 fn backward(count: u64) -> Vec<Vec<u64>> {
@@ -42,21 +36,33 @@ fn loose(count: u64) -> Vec<Vec<u64>> {
     vec![vec![]; count as usize]
 }
 
-/// A task of that shape. Executions differ, so that the cuts do, and the
-/// period is roomy enough for every shape.
+/// A task of that shape.
 pub fn record(shape: Shape, count: u64, id: u64) -> Vec<u8> {
+    numbered(shape, count, id).record()
+}
+
+/// A chain in edition 2, every other node a join: each finish wakes a join,
+/// and this the next step.
+pub fn half_joins(count: u64, id: u64) -> Vec<u8> {
+    let task = numbered(("chain", chain), count, id);
+    task.half_joins(1).record()
+}
+
+/// Executions differ, so that the cuts do, and the period is roomy enough for
+/// every shape.
+fn numbered(shape: Shape, count: u64, id: u64) -> Task {
     let executions = (0..).map(|at| 100 + at * 7_919 % 1_000);
     task(shape.1(count), executions, id)
 }
 
-fn task(parents: Vec<Vec<u64>>, executions: impl Iterator<Item = u64>, id: u64) -> Vec<u8> {
+fn task(parents: Vec<Vec<u64>>, executions: impl Iterator<Item = u64>, id: u64) -> Task {
     let node = |(parents, execution)| Node { execution, parents };
-    let task = Task {
+    Task {
+        edition: 1,
         id,
         period: 100_000,
         nodes: parents.into_iter().zip(executions).map(node).collect(),
-    };
-    task.record()
+    }
 }
 
 /// So many records stand for a case in which no branch can be learnt.
@@ -65,7 +71,7 @@ pub const DIFFERENT: usize = 512;
 /// Tasks of 64 nodes of one shape that differ in their executions.
 pub fn different(shape: Shape) -> Vec<Vec<u8>> {
     let mut chance = Chance(1);
-    let one = |_| task(shape.1(64), chance.executions(), 1);
+    let one = |_| task(shape.1(64), chance.executions(), 1).record();
     (0..DIFFERENT).map(one).collect()
 }
 
@@ -73,7 +79,7 @@ pub fn different(shape: Shape) -> Vec<Vec<u8>> {
 /// three others, whatever their numbers.
 pub fn scattered() -> Vec<Vec<u8>> {
     let mut chance = Chance(2);
-    let one = |_| task(chance.parents(64), chance.executions(), 1);
+    let one = |_| task(chance.parents(64), chance.executions(), 1).record();
     (0..DIFFERENT).map(one).collect()
 }
 

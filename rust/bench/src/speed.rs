@@ -1,7 +1,9 @@
 //! The table of times.
 
 use crate::clock::pair;
-use crate::setup::{board, different, record, scattered, Aligned, DIFFERENT, RING, SHAPES};
+use crate::setup::{
+    board, different, half_joins, record, scattered, Aligned, DIFFERENT, RING, SHAPES,
+};
 use ffi::task::Task;
 use reference::{Row, PLAN_WORDS};
 use std::hint::black_box;
@@ -32,6 +34,10 @@ fn plans() {
             let name = format!("plan {} of {count}", shape.0);
             line(&name, plan_times(&[record(shape, count, 1)]));
         }
+    }
+    for count in [8, 16, 32, 64] {
+        let name = format!("plan chain of {count}, half of it joins");
+        line(&name, plan_times(&[half_joins(count, 1)]));
     }
     let longest = Task::longest().record();
     let name = format!("read {} bytes, then refusal 10", longest.len());

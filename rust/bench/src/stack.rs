@@ -2,7 +2,7 @@
 //! seen how far down the paint is gone.
 
 use crate::frames;
-use crate::setup::{board, record, RING, SHAPES};
+use crate::setup::{board, half_joins, record, RING, SHAPES};
 use ffi::task::Task;
 use reference::PLAN_WORDS;
 use std::hint::black_box;
@@ -27,12 +27,13 @@ const TABLE_BYTES: usize = 2 * 64 * WORD;
 pub fn print() {
     println!();
     println!("stack in bytes, with the small frame that makes the call; for plan and admit");
-    println!("the deepest of 64 nodes in each shape, the ring and the longest record");
+    println!("the deepest of 64 nodes in each shape, a chain half of joins, the ring and the");
+    println!("longest record");
     println!("{:42}{:>9}{:>11}", "", "library", "reference");
     let with_id = |(shape, id)| record(shape, 64, id);
     let shapes = SHAPES.into_iter().chain([RING]);
     let mut records: Vec<Vec<u8>> = shapes.zip(90..).map(with_id).collect();
-    records.push(Task::longest().record());
+    records.extend([half_joins(64, 99), Task::longest().record()]);
     plan_depths(&records);
     admit_depths(&records);
     board_depths();

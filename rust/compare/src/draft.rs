@@ -16,7 +16,7 @@ impl Draft {
     /// None where it fails before the nodes; no structure is to be had then.
     pub fn read(record: &[u8]) -> Option<Draft> {
         let mut rest = record;
-        read_number(&mut rest).filter(|&edition| edition == 1)?;
+        let edition = read_number(&mut rest)?;
         let id = read_number(&mut rest)?;
         let period = read_number(&mut rest)?;
         let count = read_number(&mut rest)?;
@@ -29,7 +29,12 @@ impl Draft {
         }
         Some(Draft {
             missing: count - nodes.len() as u64,
-            task: Task { id, period, nodes },
+            task: Task {
+                edition,
+                id,
+                period,
+                nodes,
+            },
             tail: rest.to_vec(),
         })
     }

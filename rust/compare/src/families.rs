@@ -4,14 +4,15 @@
 use crate::boards::{free_board, random_board, tight_board, SPOILS};
 use crate::case::{difference, Call, Case};
 use crate::chance::{any_board, any_call, any_record, board_calls, old_words};
+use crate::joins::{self, sprinkle};
 use crate::loops::drawings;
 use crate::random::Random;
 use crate::records::{
-    bad_forms, encoded, misspelt, plain_task, random_bytes, samples, short_lists, spoilt,
-    with_form, WORKED,
+    bad_forms, encoded, half_joins, misspelt, plain_task, random_bytes, samples, short_lists,
+    spoilt, with_form, WORKED,
 };
 use crate::tasks::{random_task, task_of};
-use ffi::task::Task;
+use ffi::task::{chain, Task};
 use reference::{Row, PLAN_WORDS};
 use std::io::{self, Write};
 
@@ -49,6 +50,8 @@ impl Run {
         self.family("limits", Run::limits)?;
         self.family("parent counts", Run::parent_counts)?;
         self.family("loops", Run::loops)?;
+        self.family("editions", Run::editions)?;
+        self.family("joins", Run::joins)?;
         self.family("word buffers", Run::word_buffers)?;
         self.family("board lengths", Run::board_lengths)?;
         self.family("board rows", Run::board_rows)?;
@@ -142,7 +145,7 @@ impl Run {
     /// Each field takes values around every limit there is, its own and the
     /// other fields'.
     fn limits(&mut self) -> Outcome {
-        let limits = [0, 1, 64, 65_535, 16_777_215];
+        let limits = [0, 2, 64, 65_535, 16_777_215];
         let group_limits = [1 << 7, 1 << 14, 1 << 21, 1 << 28];
         for numbers in short_lists(&mut self.random) {
             for at in 0..numbers.len() {
@@ -179,8 +182,49 @@ impl Run {
 
     fn loops(&mut self) -> Outcome {
         for parents in drawings(&mut self.random) {
-            let record = plain_task(parents).record();
+            let mut task = plain_task(parents);
+            if self.random.one_in(2) {
+                sprinkle(&mut self.random, &mut task);
+            }
+            let record = task.record();
             let calls = vec![Call::Plan(record.clone()), Call::Admit(record)];
+            self.on_board(free_board(), calls)?;
+        }
+        Ok(())
+    }
+
+    /// Every edition and bad form of one, before steps alone, steps and joins,
+    /// and joins alone.
+    fn editions(&mut self) -> Outcome {
+        let tasks = [
+            plain_task(chain(3)),
+            half_joins(chain(3)),
+            half_joins(chain(1)),
+        ];
+        for numbers in tasks.map(|task| task.numbers()) {
+            let large = [1 << 14, 1 << 16, 1 << 21, 1 << 28].map(|more| more + 2);
+            for edition in (0..=300).chain(large) {
+                let mut changed = numbers.clone();
+                changed[0] = edition;
+                self.plan(encoded(&changed))?;
+            }
+            for form in [0, 1, 2, 3, 127].into_iter().flat_map(bad_forms) {
+                self.plan(with_form(&numbers, 0, &form))?;
+            }
+        }
+        Ok(())
+    }
+
+    fn joins(&mut self) -> Outcome {
+        for task in joins::tasks(&mut self.random) {
+            let record = task.record();
+            let followed = [&record[..], &[0]].concat();
+            let calls = vec![
+                Call::Plan(record.clone()),
+                Call::Plan(followed),
+                Call::Admit(record),
+                Call::Ask(self.random.between(1, 64)),
+            ];
             self.on_board(free_board(), calls)?;
         }
         Ok(())

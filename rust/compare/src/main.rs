@@ -1,16 +1,20 @@
-//! Compares the proved library with the reference, call by call.
+//! Compares the proved library with the reference, call by call, and with its
+//! own stored answers.
 
 mod boards;
 mod case;
 mod chance;
 mod draft;
+mod edition1;
 mod families;
+mod joins;
 mod loops;
 mod random;
 mod records;
 mod report;
 mod rounds;
 mod shrink;
+mod stored;
 mod tasks;
 
 use families::Run;
@@ -20,19 +24,22 @@ use std::process::ExitCode;
 struct Options {
     cases: u64,
     seed: u64,
+    store: bool,
 }
 
 fn options() -> Option<Options> {
     let mut options = Options {
         cases: 500_000,
         seed: 1,
+        store: false,
     };
     let mut arguments = env::args().skip(1);
     while let Some(name) = arguments.next() {
-        let value = arguments.next()?.parse().ok()?;
+        let mut value = || arguments.next()?.parse().ok();
         match name.as_str() {
-            "--cases" => options.cases = value,
-            "--seed" => options.seed = value,
+            "--cases" => options.cases = value()?,
+            "--seed" => options.seed = value()?,
+            "--store" => options.store = true,
             _ => return None,
         }
     }
@@ -40,10 +47,25 @@ fn options() -> Option<Options> {
 }
 
 fn main() -> ExitCode {
-    let Some(Options { cases, seed }) = options() else {
-        eprintln!("usage: compare [--cases NUMBER] [--seed NUMBER]");
+    let Some(options) = options() else {
+        eprintln!("usage: compare [--cases NUMBER] [--seed NUMBER] [--store]");
         return ExitCode::from(2);
     };
+    if options.store {
+        stored::print();
+        return ExitCode::SUCCESS;
+    }
+    match stored::check() {
+        Ok(answers) => println!("stored answers: {answers}, all as they were"),
+        Err(changed) => {
+            report::print_changed(&changed);
+            return ExitCode::FAILURE;
+        }
+    }
+    compare(options)
+}
+
+fn compare(Options { cases, seed, .. }: Options) -> ExitCode {
     println!("seed {seed}");
     let mut run = Run::of(cases, seed);
     let Err(found) = run.all() else {

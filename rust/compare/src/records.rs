@@ -4,8 +4,9 @@ use crate::random::Random;
 use crate::tasks::{random_task, task_of};
 use ffi::task::{chain, dense, fork, number, Node, Task};
 
-/// Document 01's records, and one whose child is listed first.
-pub const WORKED: [&[u8]; 11] = [
+/// Document 01's records, one whose child is listed first, and some of
+/// edition 2: a join first, last and between, no step at all, joins on a loop.
+pub const WORKED: [&[u8]; 18] = [
     &[1, 7, 5, 1, 5, 0],
     &[1, 7, 10, 1, 5, 0],
     &[1, 7, 4, 1, 5, 0],
@@ -17,12 +18,20 @@ pub const WORKED: [&[u8]; 11] = [
     &[1, 7, 9, 2, 1, 1, 1, 2, 0],
     &[1, 7, 0xFF, 0xFF, 0xFF, 0x07, 1, 5, 0],
     &[1, 0xFF, 0xFF, 3, 0xFF, 0xFF, 3, 1, 0xFF, 0xFF, 3, 0],
+    &[2, 3, 6, 3, 3, 0, 1, 0, 1, 1, 1],
+    &[2, 7, 9, 2, 0, 0, 3, 1, 0],
+    &[2, 7, 9, 2, 3, 0, 0, 1, 0],
+    &[2, 9, 10, 4, 2, 0, 4, 0, 0, 2, 0, 1, 1, 1, 2],
+    &[2, 7, 9, 1, 0, 0],
+    &[2, 7, 9, 2, 0, 1, 1, 0, 1, 0],
+    &[2, 7, 9, 3, 3, 0, 0, 1, 2, 0, 1, 1],
 ];
 
 /// Well-formed numbers of short records, to be changed one by one.
 pub fn short_lists(random: &mut Random) -> Vec<Vec<u64>> {
     let mut tasks: Vec<Task> = [1, 2, 3, 5].map(|count| task_of(random, count)).into();
     tasks.extend([chain(64), fork(64), dense(12)].map(plain_task));
+    tasks.extend([chain(16), fork(16)].map(half_joins));
     tasks.iter().map(Task::numbers).collect()
 }
 
@@ -31,9 +40,16 @@ pub fn samples(random: &mut Random) -> Vec<Vec<u8>> {
     let mut records: Vec<Vec<u8>> = WORKED.iter().map(|record| record.to_vec()).collect();
     let shapes = [chain(64), fork(64), dense(64)];
     records.extend(shapes.map(|parents| plain_task(parents).record()));
+    let shapes = [chain(64), fork(64), dense(16)];
+    records.extend(shapes.map(|parents| half_joins(parents).record()));
     records.push(Task::longest().record());
     records.extend((0..12).map(|_| random_task(random).record()));
     records
+}
+
+/// The plain task in edition 2, every other node a join, the first one too.
+pub fn half_joins(parents: Vec<Vec<u64>>) -> Task {
+    plain_task(parents).half_joins(0)
 }
 
 pub fn plain_task(parents: Vec<Vec<u64>>) -> Task {
@@ -42,6 +58,7 @@ pub fn plain_task(parents: Vec<Vec<u64>>) -> Task {
         parents,
     };
     Task {
+        edition: 1,
         id: 500,
         period: 40_000,
         nodes: parents.into_iter().map(node).collect(),
@@ -121,7 +138,15 @@ pub fn spoilt(random: &mut Random, mut record: Vec<u8>) -> Vec<u8> {
 
 /// Bytes by chance; most of them begin well enough to be read on.
 pub fn random_bytes(random: &mut Random) -> Vec<u8> {
-    let heads: [&[u8]; 4] = [&[], &[1], &[1, 7, 50], &[1, 7, 50, 3, 1, 0]];
+    let heads: [&[u8]; 7] = [
+        &[],
+        &[1],
+        &[1, 7, 50],
+        &[1, 7, 50, 3, 1, 0],
+        &[2],
+        &[2, 7, 50],
+        &[2, 7, 50, 3, 0, 0],
+    ];
     let mut bytes = random.pick(&heads).to_vec();
     let limit = random.pick(&[3, 8, 70, 130, 256]);
     let length = random.below(40);

@@ -1,6 +1,7 @@
 //! Printing a difference.
 
 use crate::case::{difference, Call, Case};
+use crate::stored::Changed;
 use reference::{Answer, Row};
 
 pub fn print(case: &Case) {
@@ -21,6 +22,18 @@ pub fn print(case: &Case) {
     if let Some(rule) = found.broken {
         println!("  the library breaks the rule: {rule}");
     }
+}
+
+/// Two lines of the file, or one; its first line says what they hold.
+pub fn print_changed(Changed { stored, now, at }: &Changed) {
+    println!(
+        "{} lines are stored, now there are {}; line {} is the first that differs:",
+        stored.len(),
+        now.len(),
+        at + 1
+    );
+    println!("  stored: {}", stored.get(*at).unwrap_or(&"no line"));
+    println!("  now:    {}", now.get(*at).map_or("no line", |line| line));
 }
 
 fn answer(answer: &Answer) -> String {

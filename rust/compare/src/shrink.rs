@@ -3,6 +3,7 @@
 
 use crate::case::{difference, Call, Case};
 use crate::draft::Draft;
+use ffi::task::Task;
 use reference::Row;
 
 pub fn shrink(mut case: Case) -> Case {
@@ -100,6 +101,12 @@ fn shrink_bytes(case: &mut Case, at: usize) {
     }
 }
 
+const TASK_FIELDS: [fn(&mut Task) -> &mut u64; 3] = [
+    |task| &mut task.period,
+    |task| &mut task.id,
+    |task| &mut task.edition,
+];
+
 /// A record gets smaller as a task first: nodes, edges, then numbers.
 fn shrink_task(case: &mut Case, at: usize) {
     let Some(mut draft) = Draft::read(record(case, at)) else {
@@ -129,12 +136,11 @@ fn shrink_task(case: &mut Case, at: usize) {
             })
         });
     }
-    lower(draft.task.period, |value| {
-        change(&mut draft, &|draft| draft.task.period = value)
-    });
-    lower(draft.task.id, |value| {
-        change(&mut draft, &|draft| draft.task.id = value)
-    });
+    for field in TASK_FIELDS {
+        lower(*field(&mut draft.task), |value| {
+            change(&mut draft, &|draft| *field(&mut draft.task) = value)
+        });
+    }
 }
 
 fn shrink_board(case: &mut Case) {

@@ -1,12 +1,13 @@
 //! Random tasks, and periods that sit on the edge of a rule.
 
+use crate::joins::sprinkle;
 use crate::random::Random;
 use ffi::task::{chain, dense, fork, Node, Task};
 use reference::PLAN_WORDS;
 
-const LARGEST_PERIOD: u64 = 16_777_215;
+pub const LARGEST_PERIOD: u64 = 16_777_215;
 
-/// Any task: shape, numbering, executions and period all by chance.
+/// Any task: edition, shape, numbering, executions and period all by chance.
 pub fn random_task(random: &mut Random) -> Task {
     let most = random.pick(&[4, 16, 64]);
     let count = if random.one_in(16) {
@@ -26,12 +27,15 @@ pub fn task_of(random: &mut Random, count: u64) -> Task {
     let executions = executions(random, count);
     let node = |(execution, parents)| Node { execution, parents };
     let mut task = Task {
+        edition: 1,
         id: random.between(1, 65_535),
         period: LARGEST_PERIOD,
         nodes: executions.into_iter().zip(parents).map(node).collect(),
     };
-    task.period = period(random, &mut task);
-    task
+    if random.one_in(2) {
+        sprinkle(random, &mut task);
+    }
+    with_period(random, task)
 }
 
 /// A graph whose edges all go up.
@@ -89,7 +93,7 @@ pub fn renumbered(random: &mut Random, parents: Vec<Vec<u64>>) -> Vec<Vec<u64>> 
     listed
 }
 
-fn executions(random: &mut Random, count: u64) -> Vec<u64> {
+pub fn executions(random: &mut Random, count: u64) -> Vec<u64> {
     let most = random.pick(&[1, 2, 5, 100, 1_000, 65_535]);
     let all_most = random.one_in(4);
     let mut execution = |_| {
@@ -109,7 +113,7 @@ struct Profile {
     threads: Vec<u64>,
 }
 
-/// From the plan at the longest period, where only a loop is refused.
+/// From the plan at the longest period, where no path is too long.
 fn profile(task: &Task) -> Option<Profile> {
     let mut roomy = task.clone();
     roomy.period = LARGEST_PERIOD;
@@ -125,7 +129,13 @@ fn profile(task: &Task) -> Option<Profile> {
     })
 }
 
-/// A period for the task; where it has to, the search changes executions.
+/// The task with a period by chance; where it has to, the search for one
+/// changes executions.
+pub fn with_period(random: &mut Random, mut task: Task) -> Task {
+    task.period = period(random, &mut task);
+    task
+}
+
 fn period(random: &mut Random, task: &mut Task) -> u64 {
     let Some(Profile { work, path, .. }) = profile(task) else {
         return random.between(1, 1_000);
@@ -157,7 +167,10 @@ fn tie(random: &mut Random, task: &mut Task) -> Option<u64> {
             return Some((work / random.pick(&found) + path) / 2);
         }
         let node = random.index(task.nodes.len());
-        task.nodes[node].execution = random.between(1, 9);
+        let execution = &mut task.nodes[node].execution;
+        if *execution > 0 {
+            *execution = random.between(1, 9);
+        }
     }
     None
 }

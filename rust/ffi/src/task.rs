@@ -1,6 +1,6 @@
 //! Tasks, their records, and some shapes of graph.
 
-/// A node's execution and its parents, ascending.
+/// A node's execution, 0 for a join, and its parents, ascending.
 #[derive(Clone, Debug, PartialEq)]
 pub struct Node {
     pub execution: u64,
@@ -9,6 +9,7 @@ pub struct Node {
 
 #[derive(Clone, Debug, PartialEq)]
 pub struct Task {
+    pub edition: u64,
     pub id: u64,
     pub period: u64,
     pub nodes: Vec<Node>,
@@ -20,7 +21,7 @@ impl Task {
 
     /// The record's numbers in their order.
     pub fn numbers(&self) -> Vec<u64> {
-        let mut numbers = vec![1, self.id, self.period, self.nodes.len() as u64];
+        let mut numbers = vec![self.edition, self.id, self.period, self.nodes.len() as u64];
         for node in &self.nodes {
             numbers.extend([node.execution, node.parents.len() as u64]);
             numbers.extend(&node.parents);
@@ -39,10 +40,19 @@ impl Task {
             parents: (0..64).collect(),
         };
         Task {
+            edition: 1,
             id: 65_535,
             period: 16_777_215,
             nodes: vec![node; 64],
         }
+    }
+
+    /// The task in edition 2; every other node from that one on is a join.
+    pub fn half_joins(mut self, first: usize) -> Task {
+        self.edition = 2;
+        let joins = self.nodes.iter_mut().skip(first).step_by(2);
+        joins.for_each(|node| node.execution = 0);
+        self
     }
 }
 
@@ -64,6 +74,13 @@ pub fn chain(count: u64) -> Vec<Vec<u64>> {
         .collect()
 }
 
+/// A chain whose first node has the last as its parent.
+pub fn ring(count: u64) -> Vec<Vec<u64>> {
+    (0..count)
+        .map(|node| vec![(node + count - 1) % count])
+        .collect()
+}
+
 /// One root, its children, and a last node that joins them.
 pub fn fork(count: u64) -> Vec<Vec<u64>> {
     let parents = |node| match node {
@@ -77,4 +94,14 @@ pub fn fork(count: u64) -> Vec<Vec<u64>> {
 /// Each node has all before it as its parents.
 pub fn dense(count: u64) -> Vec<Vec<u64>> {
     (0..count).map(|node| (0..node).collect()).collect()
+}
+
+/// The same graph with its last node listed first.
+pub fn backward(parents: Vec<Vec<u64>>) -> Vec<Vec<u64>> {
+    let last = parents.len() as u64 - 1;
+    let renamed = |parents: Vec<u64>| {
+        let parents = parents.into_iter().rev();
+        parents.map(|parent| last - parent).collect()
+    };
+    parents.into_iter().rev().map(renamed).collect()
 }

@@ -57,9 +57,9 @@ fn write_segments(timing: &Timing, shares: &Shares, words: &mut [u64]) -> Ends {
 }
 
 /// A node's deadline is the sum over its run of segments, so the difference
-/// of two ends. Its offset is the end before its first segment: a parent's
-/// offset plus deadline is the end of the parent's last segment, and the
-/// latest parent's last segment is the one before the node's first.
+/// of two ends. Its offset is the end before its run: a parent's offset plus
+/// deadline is the end of the parent's run, and the latest parent's run goes up
+/// to the node's. A join's run is empty, and its density is 0 over 1.
 fn write_nodes(
     table: &Table,
     timing: &Timing,
@@ -72,7 +72,7 @@ fn write_nodes(
     for (node, triple) in words.chunks_exact_mut(3).take(table.count).enumerate() {
         let offset = ends[usize::from(timing.first[node])];
         let deadline = ends[usize::from(timing.after[node])] - offset;
-        let density = (table.executions[node] * over * MILLION).div_ceil(deadline);
+        let density = (table.executions[node] * over * MILLION).div_ceil(deadline.max(1));
         triple.copy_from_slice(&[offset, deadline, density]);
         sum += density;
         largest = largest.max(density);

@@ -2,8 +2,10 @@
 
 use crate::refusal::{Refusal, Rule};
 
-/// A task as its record gives it. Entries past the node count are 0.
+/// A task as its record gives it. A node with execution 0 is a join. Entries
+/// past the node count are 0.
 pub struct Table {
+    pub edition: u64,
     pub id: u64,
     pub period: u64,
     pub count: usize,
@@ -13,19 +15,21 @@ pub struct Table {
 }
 
 impl Table {
+    pub const LARGEST_EDITION: u64 = 2;
     pub const LARGEST_ID: u64 = 65_535;
     pub const LARGEST_PERIOD: u64 = 16_777_215;
     pub const LARGEST_COUNT: usize = 64;
     pub const LARGEST_EXECUTION: u64 = 65_535;
 
-    /// Refusals 1 to 9 and 18, in the order they are met.
+    /// Refusals 1 to 9 and 18, in the order they are met, then 21.
     pub fn read(record: &[u8]) -> Result<Table, Refusal> {
         let mut reader = Reader { record, at: 0 };
-        reader.within(1, 1, Rule::Edition)?;
+        let edition = reader.within(1, Table::LARGEST_EDITION, Rule::Edition)?;
         let id = reader.within(1, Table::LARGEST_ID, Rule::Id)?;
         let period = reader.within(1, Table::LARGEST_PERIOD, Rule::Period)?;
         let count = reader.within(1, Table::LARGEST_COUNT as u64, Rule::NodeCount)?;
         let mut table = Table {
+            edition,
             id,
             period,
             count: count as usize,
@@ -33,11 +37,21 @@ impl Table {
             parents: [0; Table::LARGEST_COUNT],
         };
         for node in 0..table.count {
-            table.executions[node] = reader.within(1, Table::LARGEST_EXECUTION, Rule::Execution)?;
+            let least = table.least_execution();
+            table.executions[node] =
+                reader.within(least, Table::LARGEST_EXECUTION, Rule::Execution)?;
             table.parents[node] = reader.parents(count)?;
         }
         reader.end()?;
+        if table.executions == [0; Table::LARGEST_COUNT] {
+            return Err(Rule::NothingRuns.into());
+        }
         Ok(table)
+    }
+
+    /// Only edition 2 has joins.
+    fn least_execution(&self) -> u64 {
+        u64::from(self.edition == 1)
     }
 
     /// The set of the task's nodes.

@@ -21,6 +21,7 @@ pub enum Rule {
     ShortPlan = 16,
     UnsoundBoard = 17,
     NotShortest = 18,
+    NothingRuns = 21,
 }
 
 /// A rule, the byte or node it was broken at, and the nodes of a loop.

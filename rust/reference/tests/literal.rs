@@ -6,6 +6,7 @@ use reference::{plan, Answer, PLAN_WORDS};
 use std::collections::BTreeSet;
 
 struct Task {
+    edition: u64,
     period: u64,
     executions: Vec<u64>,
     parents: Vec<Vec<usize>>,
@@ -33,7 +34,8 @@ fn number(bytes: &mut Vec<u8>, mut value: u64) {
 
 impl Task {
     /// Any graph of the given density of edges, nodes in shuffled order; one
-    /// in four may have edges that close a loop.
+    /// in four may have edges that close a loop. Half are of edition 2, and
+    /// most of these have joins.
     fn random(random: &mut Random) -> Task {
         let count = 1 + random.below(12) as usize;
         let mut rank: Vec<usize> = (0..count).collect();
@@ -52,10 +54,12 @@ impl Task {
                 }
             }
         }
-        let executions: Vec<u64> = (0..count).map(|_| 1 + random.below(largest)).collect();
+        let edition = 1 + random.below(2);
+        let executions = executions(random, edition, count, largest);
         let work: u64 = executions.iter().sum();
-        let period = 1 + random.below(3 * work);
+        let period = 1 + random.below(3 * work.max(1));
         Task {
+            edition,
             period,
             executions,
             parents,
@@ -63,7 +67,7 @@ impl Task {
     }
 
     fn record(&self) -> Vec<u8> {
-        let mut bytes = vec![1, 7];
+        let mut bytes = vec![self.edition as u8, 7];
         number(&mut bytes, self.period);
         number(&mut bytes, self.executions.len() as u64);
         for (execution, parents) in self.executions.iter().zip(&self.parents) {
@@ -132,6 +136,16 @@ impl Task {
     }
 }
 
+/// In edition 2 up to nine in ten are 0.
+fn executions(random: &mut Random, edition: u64, count: usize, largest: u64) -> Vec<u64> {
+    let joins = (edition - 1) * random.below(10);
+    let mut execution = |_| match random.below(10) < joins {
+        true => 0,
+        false => 1 + random.below(largest),
+    };
+    (0..count).map(&mut execution).collect()
+}
+
 struct Segment {
     length: u64,
     running: Vec<usize>,
@@ -192,17 +206,34 @@ fn deadlines(task: &Task, segments: &[Segment]) -> (u64, Vec<u64>) {
     (2 * h, segments.iter().map(numerator).collect())
 }
 
+fn refused(refusal: u64) -> Answer {
+    Answer {
+        refusal,
+        ..Answer::default()
+    }
+}
+
+/// Execution over deadline in millionths, rounded up; a join's is 0.
+fn density(execution: u64, over: u64, deadline: u64) -> u64 {
+    if execution == 0 {
+        return 0;
+    }
+    let above = u128::from(execution) * u128::from(over) * 1_000_000;
+    let below = u128::from(deadline);
+    (above / below + u128::from(above % below != 0)) as u64
+}
+
 /// The plan's words, or the refusal.
 fn literal(task: &Task) -> Result<Vec<u64>, Answer> {
+    if task.executions.iter().all(|&execution| execution == 0) {
+        return Err(refused(21));
+    }
     if let Some(refusal) = task.looping() {
         return Err(refusal);
     }
     let segments = segments(task);
     if total(&segments) > task.period {
-        return Err(Answer {
-            refusal: 11,
-            ..Answer::default()
-        });
+        return Err(refused(11));
     }
     let (over, numerators) = deadlines(task, &segments);
     let count = task.executions.len();
@@ -215,10 +246,8 @@ fn literal(task: &Task) -> Result<Vec<u64>, Answer> {
         }
     }
     for (node, &deadline) in node_deadlines.iter().enumerate() {
-        let above = u128::from(task.executions[node]) * u128::from(over) * 1_000_000;
-        let below = u128::from(deadline);
-        let density = above / below + u128::from(above % below != 0);
-        words.extend([task.offset(node, &node_deadlines), deadline, density as u64]);
+        let density = density(task.executions[node], over, deadline);
+        words.extend([task.offset(node, &node_deadlines), deadline, density]);
     }
     Ok(words)
 }
@@ -226,7 +255,7 @@ fn literal(task: &Task) -> Result<Vec<u64>, Answer> {
 #[test]
 fn random_tasks() {
     let mut random = Random(0x2545_F491_4F6C_DD1D);
-    let mut planned = 0;
+    let (mut planned, mut with_joins) = (0, 0);
     for _ in 0..20_000 {
         let task = Task::random(&mut random);
         let mut words = [0; PLAN_WORDS];
@@ -234,6 +263,7 @@ fn random_tasks() {
         match literal(&task) {
             Ok(expected) => {
                 planned += 1;
+                with_joins += u64::from(task.executions.contains(&0));
                 assert_eq!(answer.refusal, 0);
                 assert_eq!(words[..answer.value as usize], expected);
             }
@@ -241,4 +271,5 @@ fn random_tasks() {
         }
     }
     assert!(planned > 5_000, "only {planned} tasks were planned");
+    assert!(with_joins > 2_000, "only {with_joins} had joins");
 }

@@ -133,8 +133,8 @@ fn numbers() {
     assert_eq!(plan_refusal(&[0x81, 0x80, 0x80, 0x00]), refused(18, 0));
     // Both faults at once: the fourth byte decides.
     assert_eq!(plan_refusal(&[0x80, 0x80, 0x80, 0x80, 0]), refused(2, 0));
-    // Edition 2, id 0 and period 0: a form is told before a range.
-    assert_eq!(plan_refusal(&[0x82, 0x00]), refused(18, 0));
+    // Edition 3, id 0 and period 0: a form is told before a range.
+    assert_eq!(plan_refusal(&[0x83, 0x00]), refused(18, 0));
     assert_eq!(plan_refusal(&[1, 0x80, 0x00]), refused(18, 1));
     assert_eq!(plan_refusal(&[1, 7, 0x80, 0x80, 0x00]), refused(18, 2));
     assert_eq!(plan_refusal(&[1, 7, 0x80, 0x80, 0x80, 0x08]), refused(5, 2));
@@ -147,7 +147,7 @@ fn numbers() {
 #[test]
 fn ranges() {
     assert_eq!(plan_refusal(&[0]), refused(3, 0));
-    assert_eq!(plan_refusal(&[2]), refused(3, 0));
+    assert_eq!(plan_refusal(&[3]), refused(3, 0));
     assert_eq!(plan_refusal(&[1, 0]), refused(4, 1));
     assert_eq!(plan_refusal(&[1, 0x80, 0x80, 4]), refused(4, 1));
     assert_eq!(plan_refusal(&[1, 0xFF, 0xFF, 3]), refused(1, 4));

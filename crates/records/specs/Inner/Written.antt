@@ -9,7 +9,6 @@ use Rattle.tables.specs.Limits.{countMax}
 use Rattle.tables.specs.declared.TaskTable.{TaskTable}
 use Rattle.numbers.specs.Number.{recordMore}
 use Rattle.numbers.specs.Inner.Shortest.{shortest}
-use Rattle.records.specs.Reading.{edition}
 
 -- numbers as they are written, one after the other
 unfoldable pub numbersWritten : List ℕ → List ℕ
@@ -22,7 +21,7 @@ nodeNumbers e set = e ∷ length (members countMax set) ∷ members countMax set
 
 -- "A record is, in order": a table's head, and its nodes before node i
 unfoldable pub numbersTo : TaskTable → (i : ℕ) → List ℕ
-numbersTo t zero = edition ∷ t .id ∷ t .period ∷ t .count ∷ []
+numbersTo t zero = t .edition ∷ t .id ∷ t .period ∷ t .count ∷ []
 numbersTo t (suc i) = numbersTo t i ++ nodeNumbers (at (t .execution) i) (at (t .parents) i)
 
 -- a table as it is written

@@ -1,16 +1,14 @@
--- `shares::millionths` meets its contract: the code is the definition's own division, which gives 0 where the numerator is 0, and the limits
--- keep every product in 64 bits.
-use mathlib.Core.Path.{refl, sym}
+-- `shares::millionths` meets its contract: the code is the definition's own test and division, and the limits keep every product in 64 bits.
+use mathlib.Core.Path.{sym}
 use native.Mathlib.Omega.{arith}
 use borrow.Author.Needs.{needs}
-use Rattle.shares.specs.Density.{millionths}
-use Rattle.shares.proofs.Densities.{millionths-none}
+use Rattle.shares.proofs.Densities.{undivided, divided}
 use Rattle.shares.proofs.Bounds.{amount-fits}
 use Rattle.shares.proofs.millionths.Statement.{statement}
 use Rattle.shares.proofs.millionths.Tie as tie
 
 returns : tie.Need-returns
-returns c = let a = c .before .args in rw (c .if1 .taken) (sym (millionths-none (a .execution) (a .over)))
+returns c = sym (undivided _ _ _ (c .if1 .taken))
 
 mul-result : tie.Need-mul-result
 mul-result c = omega (arith, amount-fits (c .before .pre))
@@ -28,8 +26,7 @@ div-result : tie.Need-div-result
 div-result c = search needs
 
 returns-2 : tie.Need-returns-2
-unfolding millionths
-returns-2 c = refl
+returns-2 c = sym (divided _ _ _ (c .if1 .left))
 
 pub millionths-spec : {M : Type 1} → statement M
 millionths-spec =

@@ -4,6 +4,7 @@ use Prim.Native.Nat.{ℕ, _^_, _≤_, _<_}
 use Rattle.plain.specs.At.{at}
 use Rattle.tables.specs.declared.TaskTable.{TaskTable}
 use Rattle.tables.specs.Limits.{idMax, periodMax, countMax}
+use Rattle.tables.specs.Runs.{SomeRuns}
 use Rattle.tables.specs.Inner.Limits.{runMax}
 
 -- some node runs, none for longer than `runMax`; a parent set holds only nodes below the count, and entries past the count are 0
@@ -12,7 +13,7 @@ pub record Plannable (t : TaskTable) : Type 0 where
   pub id-high : t .id ≤ idMax
   pub period-high : t .period ≤ periodMax
   pub count-high : t .count ≤ countMax
-  pub some-runs : (v : ℕ) × (v < t .count) × (1 ≤ at (t .execution) v)
+  pub some-runs : SomeRuns t
   pub run-high : (v : ℕ) → at (t .execution) v ≤ runMax
   pub parents-below : (v : ℕ) → at (t .parents) v < 2 ^ t .count
   pub parents-past : (v : ℕ) → t .count ≤ v → at (t .parents) v ≡ 0
