@@ -22,8 +22,8 @@ use Rattle.numbers.specs.Number.{recordMore}
 use Rattle.numbers.specs.Form.{Long, Padded}
 use Rattle.records.specs.Expected.{Due, range, Refuses}
 use Rattle.records.specs.Expected.Due.{edition, id, period, count, execution, parentCount, parent}
-use Rattle.records.specs.Expected.Refuses.{ends, long as too-long, padded, outside, follow, idle}
-use Rattle.records.proofs.Answers.{idle-edition, accepted-table, refused-table}
+use Rattle.records.specs.Expected.Refuses.{ends, long as too-long, padded, outside, follow, none-runs}
+use Rattle.records.proofs.Answers.{all-zero-edition, accepted-table, refused-table}
 use Rattle.records.proofs.Expected.{rule-refused, refused-rule, spelt-read, read-spelt, refused-told}
 use Rattle.ways.specs.Reaches.{Reaches}
 use Rattle.ways.specs.Inner.Tidy.{Tidy}
@@ -66,7 +66,7 @@ fault-of (too-long e f) = (λ q. (_, e, f), λ q. absurd (omega arith), λ q. ab
 fault-of (padded e f) = (λ q. absurd (omega arith), λ q. (_, e, f), λ q. absurd (omega arith))
 fault-of (outside {due = d} e w o) = let n = range-number d in (λ q. absurd (omega arith), λ q. absurd (omega arith), λ q. absurd (omega arith))
 fault-of (follow e h) = (λ q. absurd (omega arith), λ q. absurd (omega arith), λ q. absurd (omega arith))
-fault-of (idle {t = t} e z) = (λ q. absurd (omega arith), λ q. absurd (omega arith), λ q. (refl, t, e, idle-edition e z, z))
+fault-of (none-runs {t = t} e z) = (λ q. absurd (omega arith), λ q. absurd (omega arith), λ q. (refl, t, e, all-zero-edition e z, z))
 
 -- what is promised of the reader
 pub reading : OfReading
@@ -74,7 +74,7 @@ reading = record {
   refuses = λ bytes number place. (λ e. refused-rule bytes (refusal number place) e .0, outcome-of);
   long = λ bytes place. (λ e. fault-of (refused-rule bytes (refusal 2 place) e .0) .0 refl, λ f. outcome-of (too-long (f .1) (f .2)));
   padded = λ bytes place. (λ e. fault-of (refused-rule bytes (refusal 18 place) e .0) .1 refl, λ f. outcome-of (padded (f .1) (f .2)));
-  none-runs = λ bytes place. (λ e. fault-of (refused-rule bytes (refusal 21 place) e .0) .2 refl, λ (z, t, e, x, i). rw z (outcome-of (idle e i)));
+  none-runs = λ bytes place. (λ e. fault-of (refused-rule bytes (refusal 21 place) e .0) .2 refl, λ (z, t, e, x, i). rw z (outcome-of (none-runs e i)));
   reads = λ bytes t. (read-spelt bytes t, spelt-read bytes);
   own = λ bytes number place f. let told = refused-told bytes (refusal number place) (outcome-of f) in (told .own, told .place);
   empty = refused-table;

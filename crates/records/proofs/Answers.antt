@@ -156,8 +156,8 @@ pub spelt-range : {s : List ℕ} {t : TaskTable} → Spells s t → InRange t
 spelt-range (e, runs) = filling-all _ runs (whole-table e)
 
 -- and where all executions are 0, it is of edition 2: in edition 1 the first is above 0
-pub idle-edition : {s : List ℕ} {place : ℕ} {t : TaskTable} → Expects s place (nothing t) → AllZero t → t .edition ≡ 2
-idle-edition {t = t} e z = let f = whole-table e in ⊎-elim
+pub all-zero-edition : {s : List ℕ} {place : ℕ} {t : TaskTable} → Expects s place (nothing t) → AllZero t → t .edition ≡ 2
+all-zero-edition {t = t} e z = let f = whole-table e in ⊎-elim
     (λ (l : 1 < t .edition). omega (arith, f .head .0))
     (λ (l : t .edition ≤ 1).
     let one : t .edition ≡ 1 = omega (arith, f .head .0) in

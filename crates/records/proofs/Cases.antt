@@ -118,8 +118,8 @@ module _ (t : TaskTable) (s : List ℕ) (at : ℕ) where
   unfolding nothingFollows
   none-follow h = simp (le-ltb _ _ h)
 
-  pub none-runs : length s ≤ at → allZero (t .execution) (t .count) ≡ true → nothingFollows t s at ≡ noTable (refusal noneRuns 0)
-  none-runs h e = none-follow h ∙ rw e
+  pub none-run : length s ≤ at → allZero (t .execution) (t .count) ≡ true → nothingFollows t s at ≡ noTable (refusal noneRuns 0)
+  none-run h e = none-follow h ∙ rw e
 
   pub some-run : length s ≤ at → allZero (t .execution) (t .count) ≡ false → nothingFollows t s at ≡ tableRead t
   some-run h e = none-follow h ∙ rw e
@@ -130,9 +130,9 @@ module _ (i n : ℕ) (t : TaskTable) (s : List ℕ) (at : ℕ) where
   unfolding nodes
   nodes-none h = let e : n - i ≡ 0 = omega arith in rw (e, nodes)
 
-  pub nodes-more : i < n → t .count ≡ n → nodes (n - i) i t s at ≡
-      andThen noTable (ranged badExecution (leastExecution (t .edition)) executionMax s at) λ e at₁.
+  pub nodes-more : (least : ℕ) → least ≡ leastExecution (t .edition) → i < n → t .count ≡ n → nodes (n - i) i t s at ≡
+      andThen noTable (ranged badExecution least executionMax s at) λ e at₁.
       andThen noTable (parentSet n s at₁) λ w at₂.
       nodes (n - (i + 1)) (i + 1) (withNode t i e w) s at₂
   unfolding nodes
-  nodes-more h d = let e : n - i ≡ suc (n - (i + 1)) = omega arith in rw (e, nodes, ← d)
+  nodes-more least q h d = let e : n - i ≡ suc (n - (i + 1)) = omega arith in rw (e, nodes, ← d, q)

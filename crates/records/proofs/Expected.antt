@@ -38,8 +38,8 @@ use Rattle.records.specs.Expected.{Due, range, Next, nodeFrom, parentFro
 use Rattle.records.specs.Expected.Due.{edition, id, period, count, execution, parentCount, parent}
 use Rattle.records.specs.Expected.Next.{number, nothing}
 use Rattle.records.specs.Expected.Expects.{begin, on}
-use Rattle.records.specs.Expected.Refuses.{ends, long, padded, outside, follow, idle}
-use Rattle.records.proofs.Cases.{then-read, then-refused, ranged-refused, ranged-out, ranged-in, some-follow, none-runs, some-run, nodes-none, nodes-more}
+use Rattle.records.specs.Expected.Refuses.{ends, long, padded, outside, follow, none-runs}
+use Rattle.records.proofs.Cases.{then-read, then-refused, ranged-refused, ranged-out, ranged-in, some-follow, none-run, some-run, nodes-none, nodes-more}
 
 -- the same after every value, and a step in a step
 then-same : {A : Type 0} (out : Refusal → A) (step : Step) (more instead : ℕ → ℕ → A) → ((v next : ℕ) → more v next ≡ instead v next) →
@@ -84,7 +84,7 @@ unfolding onward fromNext
 node-onward s at t i = by (ltb i (t .count)) refl
   where
     by : (b : Bool) → ltb i (t .count) ≡ b → nodes (t .count - i) i t s at ≡ onward s at (pick b (number (execution t i)) (nothing t))
-    by true e = nodes-more i (t .count) t s at (ltb-true _ _ e) refl
+    by true e = nodes-more i (t .count) t s at _ refl (ltb-true _ _ e) refl
     by false e = nodes-none i (t .count) t s at (ltb-false _ _ e)
 
 parent-onward : (s : List ℕ) (at : ℕ) (t : TaskTable) (i e left low set : ℕ) →
@@ -143,7 +143,7 @@ module _ (s : List ℕ) where
   rule-refused (padded {place = at} e f) = stops e (ranged-refused _ _ _ s at _ (padded-read s at f))
   rule-refused (outside {place = at} e w o) = stops e (ranged-out _ _ _ s at _ _ (whole-read s at w) o)
   rule-refused (follow {place = at} {t = t} e h) = reached e ∙ some-follow t s at h
-  rule-refused (idle {t = t} e z) = reached e ∙ none-runs t s (length s) (le-refl (length s)) (zero-all (t .execution) (t .count) z)
+  rule-refused (none-runs {t = t} e z) = reached e ∙ none-run t s (length s) (le-refl (length s)) (zero-all (t .execution) (t .count) z)
 
   pub spelt-read : {t : TaskTable} → Spells s t → readingOf s ≡ tableRead t
   unfolding onward
@@ -167,7 +167,7 @@ module _ (s : List ℕ) where
       (lt-or-ge at (length s))
     where
       by : Expects s (length s) (nothing t) → (b : Bool) → allZero (t .execution) (t .count) ≡ b → Comes
-      by e true z = refuses (idle e (all-zero (t .execution) (t .count) z))
+      by e true z = refuses (none-runs e (all-zero (t .execution) (t .count) z))
       by e false z = spells (e, some-runs (t .execution) (t .count) z)
   comes-at at (number d) e again = by (forms.found recordMore (drop at s))
     where
@@ -234,7 +234,7 @@ rule-told (long e f) = record { own = refl; place = reached-inside _ e }
 rule-told (padded e f) = record { own = refl; place = reached-inside _ e }
 rule-told (outside {due = d} e w o) = record { own = own-range d; place = reached-inside _ e }
 rule-told (follow e h) = record { own = refl; place = reached-inside _ e }
-rule-told (idle e z) = record { own = refl; place = zero-le }
+rule-told (none-runs e z) = record { own = refl; place = zero-le }
 
 pub refused-told : (s : List ℕ) (r : Refusal) → readingOf s .outcome ≡ outcome.Refused r → Told (length s) r
 refused-told s r q = let w = refused-rule s r q in rw (w .1) (rule-told (w .0))

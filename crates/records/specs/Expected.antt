@@ -76,7 +76,7 @@ pub data Refuses (bytes : List ℕ) : (number place : ℕ) → Type 0 where
   padded : {place : ℕ} {due : Due} → Expects bytes place (number due) → Padded recordMore (drop place bytes) → Refuses bytes notShortest place
   outside : {place v n : ℕ} {due : Due} → Expects bytes place (number due) → Whole recordMore (drop place bytes) v n → (v < range due .low) ⊎ (range due .high < v) → Refuses bytes (range due .broken) place
   follow : {place : ℕ} {t : TaskTable} → Expects bytes place (nothing t) → place < length bytes → Refuses bytes bytesFollow place
-  idle : {t : TaskTable} → Expects bytes (length bytes) (nothing t) → AllZero t → Refuses bytes noneRuns 0
+  none-runs : {t : TaskTable} → Expects bytes (length bytes) (nothing t) → AllZero t → Refuses bytes noneRuns 0
 
 -- every number is fine, "Nothing follows." and some node runs: t is the table that they spell
 abbrev pub Spells : List ℕ → (t : TaskTable) → Type 0

@@ -146,15 +146,15 @@ fn rejected(step: Step) -> Reading
     }
 }
 
-// A whole table, where no byte follows it and it is not idle, which it is where all executions are 0.
-fn nothing_follows(bytes: &[u8], at: usize, idle: bool, table: TaskTable) -> Reading
-    requires { ⌜ idle ≡ allZero (table .execution) (table .count) ⌝ }
+// A whole table, where no byte follows it and its executions are not all zeros.
+fn nothing_follows(bytes: &[u8], at: usize, zeros: bool, table: TaskTable) -> Reading
+    requires { ⌜ zeros ≡ allZero (table .execution) (table .count) ⌝ }
     ensures { λ r. ⌜ r ≡ nothingFollows table (now (bytes .entry)) at ⌝ }
 {
     if at < bytes.len() {
         return rejected(refuse(Refusal::BYTES_FOLLOW, at));
     }
-    if idle {
+    if zeros {
         return rejected(refuse(Refusal::NONE_RUNS, 0));
     }
     Reading {
@@ -197,8 +197,8 @@ fn read_nodes(bytes: &[u8], from: usize, head: TaskTable) -> Reading
         at = next;
         i += 1;
     }
-    let idle = tables::all_zero(&table.execution, n);
-    nothing_follows(bytes, at, idle, table)
+    let zeros = tables::all_zero(&table.execution, n);
+    nothing_follows(bytes, at, zeros, table)
 }
 
 // The table that a record holds, or the refusal of the first rule that it breaks.

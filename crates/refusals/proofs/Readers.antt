@@ -1,5 +1,5 @@
--- The reader's own numbers are above 0, so that none of its refusals is told as an acceptance, none is 10, and they have at most two digits: a
--- test that computes over the whole list holds of each of its numbers.
+-- The reader's own numbers are above 0, so that none of its refusals is told as an acceptance, and none is 10: a test that computes over the whole
+-- list holds of each of its numbers.
 use mathlib.Core.Path.{_≡_, refl, ap, _∙_}
 use mathlib.Core.Bool.{Bool, true, false, not, _&&_, _||_}
 use mathlib.Core.List.{List, [], _∷_}
@@ -35,11 +35,7 @@ pub readers-not-loop : (n : ℕ) → isReaders n ≡ true → n ≡ loop → ⊥
 unfolding every
 readers-not-loop n e q = true-false (each (λ m. not (eqb m loop)) readers n refl e) (rw q)
 
--- the bounds
+-- nor is 0
 pub readers-low : (n : ℕ) → isReaders n ≡ true → 1 ≤ n
 unfolding every
 readers-low n e = leb-true 1 n (each (leb 1) readers n refl e)
-
-pub readers-high : (n : ℕ) → isReaders n ≡ true → n ≤ 99
-unfolding every
-readers-high n e = leb-true n 99 (each (λ m. leb m 99) readers n refl e)

@@ -16,6 +16,6 @@ AllZero t = (v : ℕ) → v < t .count → at (t .execution) v ≡ 0
 abbrev pub SomeRuns : TaskTable → Type 0
 SomeRuns t = (v : ℕ) × (v < t .count) × (1 ≤ at (t .execution) v)
 
--- the greatest of n executions is 0
+-- "all executions are 0", of n: the greatest is
 unfoldable pub allZero : (X : List ℕ) (n : ℕ) → Bool
 allZero X n = eqb (maxTo n (at X)) 0

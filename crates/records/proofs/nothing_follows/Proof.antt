@@ -1,7 +1,7 @@
 -- `records::nothing_follows` meets its contract: its tests are those of `nothingFollows`, in that order.
 use mathlib.Core.Path.{sym, _∙_}
 use borrow.Author.Needs.{needs}
-use Rattle.records.proofs.Cases.{then-refused, some-follow, none-runs, some-run}
+use Rattle.records.proofs.Cases.{then-refused, some-follow, none-run, some-run}
 use Rattle.records.proofs.nothing_follows.Statement.{statement}
 use Rattle.records.proofs.nothing_follows.Tie as tie
 
@@ -12,7 +12,7 @@ returns c = let f = c .before in
 returns-2 : tie.Need-returns-2
 returns-2 c = let f = c .before in let i = f .before in
     c .rejected2 .ensures ∙ then-refused _ _ _ _ (f .refuse2 .ensures)
-    ∙ sym (none-runs _ _ _ (i .before .if1 .left) (sym (i .before .before .before .pre) ∙ i .if2 .taken))
+    ∙ sym (none-run _ _ _ (i .before .if1 .left) (sym (i .before .before .before .pre) ∙ i .if2 .taken))
 
 returns-3 : tie.Need-returns-3
 returns-3 c = sym (some-run _ _ _ (c .before .if1 .left) (sym (c .before .before .before .pre) ∙ c .if2 .left))

@@ -1,5 +1,5 @@
 -- `records::read_nodes` meets its contract. The loop's invariant: the nodes still to be read, put into the table so far, make the whole reading.
-use Prim.Native.Nat.{ℕ, _-_, _≤_}
+use Prim.Native.Nat.{_-_, _≤_}
 use mathlib.Core.Path.{_≡_, refl, sym, ap, _∙_}
 use native.Mathlib.Omega.{arith}
 use lib.ListN.{length, length-set}
@@ -9,7 +9,6 @@ use Rattle.refusals.specs.Numbers.{badExecution}
 use Rattle.tables.specs.Limits.{countMax, executionMax, leastExecution}
 use Rattle.tables.specs.Runs.{allZero}
 use Rattle.records.specs.declared.Step.the-variants.{Read}
-use Rattle.records.specs.Ranged.{ranged}
 use Rattle.records.specs.Parents.{parentSet}
 use Rattle.records.specs.Nodes.{nodes}
 use Rattle.records.proofs.Cases.{then-read, then-out, nodes-none, nodes-more}
@@ -44,15 +43,10 @@ enum-told c = search needs
 rejected-requires : tie.Need-rejected-requires Inv-loop μ-loop
 rejected-requires c κs = search needs
 
--- a node's execution, as it is found and as it passed
-found : (c : tie.After-read-ranged Inv-loop μ-loop) → (let h = c .before .before in
-    c .read-ranged .result ≡ ranged badExecution (leastExecution (h .loop .table .edition)) executionMax (now (h .before .before .before .args .bytes)) (h .loop .at))
-found c = let h = c .before .before in
-    c .read-ranged .ensures ∙ ap (λ (low : ℕ). ranged badExecution low executionMax (now (h .before .before .before .args .bytes)) (h .loop .at)) (h .loop .inv .1)
-
+-- a node's execution
 execution : (c : tie.After-first Inv-loop μ-loop) → (let h = c .before .before .before .before in
-    Passed badExecution (leastExecution (h .loop .table .edition)) executionMax (now (h .before .before .before .args .bytes)) (h .loop .at) (c .first .given .0 .0) (c .first .given .0 .1 .0))
-execution c = passed _ _ _ _ _ _ _ _ (found (c .before .before)) (c .first .given .1) (omega arith)
+    Passed badExecution (h .before .least-execution .result) executionMax (now (h .before .before .before .args .bytes)) (h .loop .at) (c .first .given .0 .0) (c .first .given .0 .1 .0))
+execution c = passed _ _ _ _ _ _ _ _ (c .before .before .read-ranged .ensures) (c .first .given .1) (omega arith)
 
 -- its parent set, and the place after it
 set : (c : tie.After-second Inv-loop μ-loop) → (let f = c .before .before .before .before in let a = f .before .before .before .before .before .before .before .args in
@@ -65,8 +59,8 @@ next c = read-inside _ _ _ _ _ (set c) (parentSet-inside _ _ _ (omega arith) (ex
 
 returns : tie.Need-returns Inv-loop μ-loop
 returns c = let i = c .before .before .before .before in let l = i .before .loop in
-    c .rejected .ensures ∙ then-out _ _ _ _ _ _ (found (c .before .before .before)) (c .before .enum-told .given .1)
-    ∙ sym (l .inv .0 ∙ nodes-more _ _ _ _ _ (i .loop-test .taken) (l .inv .4))
+    c .rejected .ensures ∙ then-out _ _ _ _ _ _ (c .before .before .before .read-ranged .ensures) (c .before .enum-told .given .1)
+    ∙ sym (l .inv .0 ∙ nodes-more _ _ _ _ _ _ (l .inv .1) (i .loop-test .taken) (l .inv .4))
 
 read-parent-set-requires : tie.Need-read-parent-set-requires Inv-loop μ-loop
 read-parent-set-requires c κs = let p = execution (c .before) in omega arith
@@ -83,7 +77,7 @@ rejected-requires-2 c κs = search needs
 returns-2 : tie.Need-returns-2 Inv-loop μ-loop
 returns-2 c = let f = c .before .before .before .before .before in let i = f .before .before .before in let l = i .before .loop in
     c .rejected2 .ensures ∙ then-out _ _ _ _ _ _ (c .before .before .before .read-parent-set .ensures) (c .before .enum-told2 .given .1)
-    ∙ sym (l .inv .0 ∙ nodes-more _ _ _ _ _ (i .loop-test .taken) (l .inv .4) ∙ then-read _ _ _ _ _ (execution f .is))
+    ∙ sym (l .inv .0 ∙ nodes-more _ _ _ _ _ _ (l .inv .1) (i .loop-test .taken) (l .inv .4) ∙ then-read _ _ _ _ _ (execution f .is))
 
 mul-table : tie.Need-mul-table Inv-loop μ-loop
 mul-table c = search needs
@@ -106,7 +100,7 @@ loop-less c = search needs
 loop-again : tie.Need-loop-again Inv-loop μ-loop
 loop-again c = let p = c .before in let f = p .before .before .before .before in let i = f .before .before .before in
     let l = i .before .loop in (
-      l .inv .0 ∙ nodes-more _ _ _ _ _ (i .loop-test .taken) (l .inv .4) ∙ then-read _ _ _ _ _ (execution f .is) ∙ then-read _ _ _ _ _ (set p),
+      l .inv .0 ∙ nodes-more _ _ _ _ _ _ (l .inv .1) (i .loop-test .taken) (l .inv .4) ∙ then-read _ _ _ _ _ (execution f .is) ∙ then-read _ _ _ _ _ (set p),
       l .inv .1,
       omega arith,
       next p,
