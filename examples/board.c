@@ -1,5 +1,5 @@
-/* Plans a task, admits it, asks for the verdict and withdraws it, through planner.h; shows where another goes round, and
- * what a unit for a join costs. */
+/* Plans a task, admits it, asks for the verdict and withdraws it, through planner.h; shows where another goes round,
+ * what a unit for a join costs, and what a dispatch cost changes. */
 #include <inttypes.h>
 #include <stdio.h>
 #include <string.h>
@@ -39,13 +39,13 @@ static const uint8_t join[] = {
 };
 
 /* A task's path, and the verdict for four cores where it stands alone. */
-static void show_alone(const char *name, const uint8_t *record, uint64_t length)
+static void show_alone(const char *name, const uint8_t *record, uint64_t length, uint64_t cost)
 {
     uint64_t words[PLANNER_WORDS] = {0};
     struct planner_row board[PLANNER_ROWS] = {0};
     uint64_t path = 0;
 
-    show(name, planner_admit(record, length, words, PLANNER_WORDS, board, PLANNER_ROWS));
+    show(name, planner_admit(record, length, words, PLANNER_WORDS, board, PLANNER_ROWS, cost));
     for (uint64_t segment = 0; segment < words[1]; segment++)
         path += words[3 + 3 * segment + 1];
     printf("path %" PRIu64 ", over %" PRIu64 "\n", path, words[0]);
@@ -62,7 +62,17 @@ static void show_unit(void)
     unit[1] = 0x2C;  /* id 44 */
     unit[10] = 0x01; /* 3, a step now */
     unit[24] = 0x01; /* 7, a step now */
-    show_alone("admit unit", unit, sizeof unit);
+    show_alone("admit unit", unit, sizeof unit, 0);
+}
+
+/* join.task again: each of its nine steps pays the cost, three of them on the longest way; its two joins pay nothing. */
+static void show_cost(void)
+{
+    uint64_t words[PLANNER_WORDS];
+
+    show_alone("admit join at cost 3", join, sizeof join, 3);
+    show("plan join at cost 16", planner_plan(join, sizeof join, words, PLANNER_WORDS, 16));
+    show("plan join at cost 256", planner_plan(join, sizeof join, words, PLANNER_WORDS, 256));
 }
 
 int main(void)
@@ -87,18 +97,19 @@ int main(void)
     static uint64_t words[PLANNER_WORDS];
     static struct planner_row board[PLANNER_ROWS];
 
-    show("plan", planner_plan(record, sizeof record, words, PLANNER_WORDS));
+    show("plan", planner_plan(record, sizeof record, words, PLANNER_WORDS, 0));
     printf("over %" PRIu64 ", %" PRIu64 " segments, %" PRIu64 " nodes\n", words[0], words[1], words[2]);
-    show("plan padded", planner_plan(padded, sizeof padded, words, PLANNER_WORDS));
-    show("plan tangle", planner_plan(tangle, sizeof tangle, words, PLANNER_WORDS));
-    show("admit", planner_admit(record, sizeof record, words, PLANNER_WORDS, board, PLANNER_ROWS));
-    show("admit again", planner_admit(record, sizeof record, words, PLANNER_WORDS, board, PLANNER_ROWS));
+    show("plan padded", planner_plan(padded, sizeof padded, words, PLANNER_WORDS, 0));
+    show("plan tangle", planner_plan(tangle, sizeof tangle, words, PLANNER_WORDS, 0));
+    show("admit", planner_admit(record, sizeof record, words, PLANNER_WORDS, board, PLANNER_ROWS, 0));
+    show("admit again", planner_admit(record, sizeof record, words, PLANNER_WORDS, board, PLANNER_ROWS, 0));
     show("ask 1 core", planner_ask(board, PLANNER_ROWS, 1));
     show("ask 2 cores", planner_ask(board, PLANNER_ROWS, 2));
     show("ask 0 cores", planner_ask(board, PLANNER_ROWS, 0));
     show("withdraw 3", planner_withdraw(board, PLANNER_ROWS, 3));
     show("withdraw 3 again", planner_withdraw(board, PLANNER_ROWS, 3));
-    show_alone("admit join", join, sizeof join);
+    show_alone("admit join", join, sizeof join, 0);
     show_unit();
+    show_cost();
     return 0;
 }

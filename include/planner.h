@@ -13,7 +13,7 @@
 #include <stdint.h>
 
 /* Goes up with each release that changes a call's parameters or a struct's fields. Version 1 had no such number. */
-#define PLANNER_VERSION 2
+#define PLANNER_VERSION 3
 
 /* The most words that a plan has; a smaller buffer is refused by 16. */
 #define PLANNER_WORDS 387
@@ -23,14 +23,14 @@
 
 /* What a call answers. refusal 0: accepted, and value holds what the call returns. Otherwise refusal is the number of
  * the rule that was broken, value 0, and place where it was met: a byte of the record (for 1 the record's length), for 10
- * the smallest node that waits for itself, and 0 for 11 to 17 and for 21. ring (since version 2) is for 10 the set of nodes
+ * the smallest node that waits for itself, and 0 for 11 to 17, 21 and 26. ring (since version 2) is for 10 the set of nodes
  * of one loop through that node, node k as bit k, from which none can be left out; with every other answer it is 0.
  * Refusals: 1 the record ends too early; 2 a number's fourth byte has its top bit set; 3 the edition is neither 1 nor
  * 2; 4 id, 5 period, 6 node count, 7 execution (from 1 in edition 1, from 0 in edition 2) out of range; 8 a parent
  * count or parent out of range or order; 9 bytes follow the record; 10 a node waits for itself, over others or not; 11
  * the path is longer than the period; 12 the id stands already; 13 no row is free; 14 no task with this id stands; 15
  * no such number of cores; 16 too few words; 17 the board isn't sound; 18 a number isn't in its shortest form; 21 all
- * executions are 0. */
+ * executions are 0; 26 the cost is above 255. */
 struct planner_answer {
     uint64_t refusal;
     uint64_t place;
@@ -39,7 +39,8 @@ struct planner_answer {
 };
 
 /* One row of the board. A free row is all zeros: a board of 16 such rows is empty. sum and largest are the total and
- * the largest of the task's node densities, in millionths. Only the calls below should write rows. */
+ * the largest of the task's node densities at the cost it was admitted with, in millionths. Only the calls below should
+ * write rows. */
 struct planner_row {
     uint64_t id;
     uint64_t nodes;
@@ -52,16 +53,18 @@ struct planner_row {
  *   then s times (threads, length, deadline numerator), then n times (offset numerator, deadline numerator, density).
  * Offsets and deadlines are in time units times Q; densities are in millionths, rounded up. A node with execution 0 runs
  * in no segment: it has deadline 0 and density 0.
- * value: the number of words written. Refusals, in this order: 16; 1 to 9 and 18 as met from the left; 21; 10; 11. */
+ * cost (since version 3), 0 .. 255 time units, is what the switch at each step's start takes: an execution above 0 is the
+ * record's number plus the cost, from the path to the densities. An execution of 0 stays 0.
+ * value: the number of words written. Refusals, in this order: 26; 16; 1 to 9 and 18 as met from the left; 21; 10; 11. */
 struct planner_answer planner_plan(const uint8_t *record, uint64_t record_length,
-                                   uint64_t *words, uint64_t words_length);
+                                   uint64_t *words, uint64_t words_length, uint64_t cost);
 
-/* Plans the task as planner_plan does and enters it in the lowest free row of the board.
- * value: the row filled, 0 .. 15. Refusals: 16; 17; 1 to 9 and 18 as met from the left; 21; 10; 11; 12 (the id stands
+/* Plans the task as planner_plan does, at that cost (since version 3), and enters it in the lowest free row of the board.
+ * value: the row filled, 0 .. 15. Refusals: 26; 16; 17; 1 to 9 and 18 as met from the left; 21; 10; 11; 12 (the id stands
  * already); 13 (no row is free). */
 struct planner_answer planner_admit(const uint8_t *record, uint64_t record_length,
                                     uint64_t *words, uint64_t words_length,
-                                    struct planner_row *board, uint64_t board_length);
+                                    struct planner_row *board, uint64_t board_length, uint64_t cost);
 
 /* Frees the row of the task with this id. value: the row freed. Refusals: 17; 14 (no such task; id 0 never stands). */
 struct planner_answer planner_withdraw(struct planner_row *board, uint64_t board_length, uint64_t id);

@@ -4,7 +4,7 @@ use mathlib.Core.Path.{_≡_, refl, ap}
 use mathlib.Core.List.{List}
 use Prim.Native.Nat.{ℕ, _≤_}
 use native.Mathlib.Omega.{arith}
-use Rattle.refusals.specs.Numbers.{longPath, fewWords, unsoundBoard}
+use Rattle.refusals.specs.Numbers.{longPath, fewWords, unsoundBoard, highCost}
 use Rattle.refusals.specs.declared.Refusal.{Refusal}
 use Rattle.refusals.specs.Refusal.{refusal}
 use Rattle.refusals.specs.Answer.{refused}
@@ -23,7 +23,7 @@ use Rattle.admissions.specs.Admission.{Admission, rowOf, notAdmitted, en
 use Rattle.admissions.proofs.Row.{row-standing}
 use Rattle.admissions.proofs.Tests.{entered-refused}
 use Rattle.admissions.proofs.Cases.{Admitting, admitting}
-use Rattle.admissions.proofs.Cases.Admitting.{few, unsound, tries}
+use Rattle.admissions.proofs.Cases.Admitting.{dear, few, unsound, tries}
 
 -- an entry that is refused changes nothing
 entered-kept : (rows : List Row) (words : List ℕ) (t : TaskTable) → (entered rows words t .change .answer .refusal ≡ 0 → ⊥) → (changed rows (entered rows words t .change) ≡ rows) × (entered rows words t .words ≡ words)
@@ -35,40 +35,41 @@ entered-sound : {rows : List Row} → Sound rows → (words : List ℕ) {t : Tas
 unfolding entered
 entered-sound {rows} s words {t} ok = placed-sound rows (rowOf t) s (row-standing (plans-accepted ok))
 
-module _ (bytes words : List ℕ) (rows : List Row) where
+module _ (bytes words : List ℕ) (rows : List Row) (cost : ℕ) where
   -- the cases in two: out with a refusal, whose number is not 0, or an entry
   data Ending : Admission → Type 0 where
     out : (r : Refusal) → 1 ≤ r .number → Ending (notAdmitted rows words r)
-    entry : Sound rows → Accepted (taskOf bytes) → Ending (entered rows words (taskOf bytes))
+    entry : Sound rows → Accepted (taskOf bytes cost) → Ending (entered rows words (taskOf bytes cost))
 
-  ending : {a : Admission} → Admitting bytes words rows a → Ending a
-  ending (few w) = out (refusal fewWords 0) (omega arith)
-  ending (unsound w u) = out (refusal unsoundBoard 0) (omega arith)
-  ending (tries w s (unread r e)) = out r (readers-low (r .number) (refused-told bytes r e .own))
-  ending (tries w s (round e l)) = out (loopIn (taskOf bytes)) (omega arith)
-  ending (tries w s (long e l h)) = out (refusal longPath 0) (omega arith)
-  ending (tries w s (goes e ok)) = entry s ok
+  ending : {a : Admission} → Admitting bytes words rows cost a → Ending a
+  ending (dear c) = out (refusal highCost 0) (omega arith)
+  ending (few c w) = out (refusal fewWords 0) (omega arith)
+  ending (unsound c w u) = out (refusal unsoundBoard 0) (omega arith)
+  ending (tries c w s (unread r e)) = out r (readers-low (r .number) (refused-told bytes r e .own))
+  ending (tries c w s (round e l)) = out (loopIn (taskOf bytes cost)) (omega arith)
+  ending (tries c w s (long e l h)) = out (refusal longPath 0) (omega arith)
+  ending (tries c w s (goes e ok)) = entry s ok
 
   -- a refusal leaves every row and every word
-  pub refused-kept : (admission bytes words rows .change .answer .refusal ≡ 0 → ⊥) → (changed rows (admission bytes words rows .change) ≡ rows) × (admission bytes words rows .words ≡ words)
-  refused-kept = go (ending (admitting bytes words rows))
+  pub refused-kept : (admission bytes words rows cost .change .answer .refusal ≡ 0 → ⊥) → (changed rows (admission bytes words rows cost .change) ≡ rows) × (admission bytes words rows cost .words ≡ words)
+  refused-kept = go (ending (admitting bytes words rows cost))
     where
       go : {a : Admission} → Ending a → (a .change .answer .refusal ≡ 0 → ⊥) → (changed rows (a .change) ≡ rows) × (a .words ≡ words)
       go (out r l) n = (refusal-kept rows (refused r), refl)
-      go (entry s ok) n = entered-kept rows words (taskOf bytes) n
+      go (entry s ok) n = entered-kept rows words (taskOf bytes cost) n
 
   -- only a sound board takes a task, and only a task with a plan: it comes to the task's entry
-  pub accepted-entered : admission bytes words rows .change .answer .refusal ≡ 0
-      → Sound rows × Accepted (taskOf bytes) × (admission bytes words rows ≡ entered rows words (taskOf bytes))
-  accepted-entered = go (ending (admitting bytes words rows))
+  pub accepted-entered : admission bytes words rows cost .change .answer .refusal ≡ 0
+      → Sound rows × Accepted (taskOf bytes cost) × (admission bytes words rows cost ≡ entered rows words (taskOf bytes cost))
+  accepted-entered = go (ending (admitting bytes words rows cost))
     where
-      go : {a : Admission} → Ending a → a .change .answer .refusal ≡ 0 → Sound rows × Accepted (taskOf bytes) × (a ≡ entered rows words (taskOf bytes))
+      go : {a : Admission} → Ending a → a .change .answer .refusal ≡ 0 → Sound rows × Accepted (taskOf bytes cost) × (a ≡ entered rows words (taskOf bytes cost))
       go (out r l) z = absurd (omega arith)
       go (entry s ok) z = (s, ok, refl)
 
   -- a sound board stays sound
-  pub admission-sound : Sound rows → Sound (changed rows (admission bytes words rows .change))
-  admission-sound s = go (ending (admitting bytes words rows))
+  pub admission-sound : Sound rows → Sound (changed rows (admission bytes words rows cost .change))
+  admission-sound s = go (ending (admitting bytes words rows cost))
     where
       go : {a : Admission} → Ending a → Sound (changed rows (a .change))
       go (out r l) = rw (refusal-kept rows (refused r)) s

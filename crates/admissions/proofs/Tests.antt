@@ -6,8 +6,8 @@ use Prim.Native.Nat.{ℕ, _≤_, _<_}
 use native.Mathlib.Decide.{ℕ-discrete}
 use native.Mathlib.Omega.{arith}
 use lib.ListN.{length}
-use borrow.Author.Tests.{lt-ltb, le-ltb, eq-eqb, ne-eqb}
-use Rattle.refusals.specs.Numbers.{fewWords, unsoundBoard}
+use borrow.Author.Tests.{eq-eqb, ne-eqb}
+use Rattle.refusals.specs.Numbers.{unsoundBoard}
 use Rattle.refusals.specs.declared.Answer.{Answer}
 use Rattle.refusals.specs.declared.Refusal.{Refusal}
 use Rattle.refusals.specs.declared.Outcome.{Outcome}
@@ -17,8 +17,8 @@ use Rattle.refusals.specs.Answer.{accepted, refused}
 use Rattle.refusals.specs.After.{After}
 use Rattle.tables.specs.declared.TaskTable.{TaskTable}
 use Rattle.plans.specs.Diagram.{segmentCount}
-use Rattle.plans.specs.Words.{wordCount, wordsMax, written}
-use Rattle.plans.specs.Calls.{onTable, onTask, unplanned}
+use Rattle.plans.specs.Words.{wordCount, written}
+use Rattle.plans.specs.Calls.{beforeReading, onTable, onTask, unplanned}
 use Rattle.plans.specs.Inner.Planned.{Planned}
 use Rattle.plans.specs.Inner.Drawn.{outcomeOf}
 use Rattle.plans.specs.Inner.Table.{unlessLater, tablePlan}
@@ -29,6 +29,7 @@ use Rattle.boards.specs.Sound.{isSound}
 use Rattle.boards.specs.Row.{rowsMax}
 use Rattle.boards.specs.Change.{unchanged, placed}
 use Rattle.admissions.specs.Admission.{Admission, rowOf, notAdmitted, entered, admission}
+use Rattle.admissions.specs.Inner.NoBoard.{noBoard}
 use Rattle.admissions.proofs.Place.{idOnly, refused-alike, accepted-alike, refused-unchanged}
 
 -- a task with a plan, by what the board says of its row
@@ -94,22 +95,30 @@ module _ (rows : List Row) (words : List ℕ) (t : TaskTable) (c : Change) (foun
           (so .0, so .1, on-fits (notAdmitted rows words) (entered rows words) t (ok .free) (ok .fits) ∙ goes-in rows words t found e)
       go (no m) = absurd (m (sym (ap (λ (x : Answer). x .refusal) (is (on-fits (unplanned words) (unlessLater (c .answer) words) t (ok .free) (ok .fits) ∙ later-refuses (c .answer) words t m) .0)) ∙ z))
 
--- the words and the board lent
-module _ (bytes words : List ℕ) (rows : List Row) where
-  -- 16
-  pub few : length words < wordsMax → admission bytes words rows ≡ notAdmitted rows words (refusal fewWords 0)
+-- the rules before the record's, and the board lent
+module _ (bytes words : List ℕ) (rows : List Row) (cost : ℕ) where
+  -- 26, 16
+  pub refused-first : {r : Refusal} → beforeReading (length words) cost ≡ outcome.Refused r → admission bytes words rows cost ≡ notAdmitted rows words r
   unfolding admission
-  few h = rw (lt-ltb (length words) wordsMax h)
+  refused-first e = rw e
 
-  -- 17
-  pub unsound : wordsMax ≤ length words → isSound rows ≡ false → admission bytes words rows ≡ notAdmitted rows words (refusal unsoundBoard 0)
-  unfolding admission
-  unsound h e = rw (le-ltb (length words) wordsMax h, e)
+  module _ (first : beforeReading (length words) cost ≡ outcome.Accepted) where
+    -- 17
+    pub unsound : isSound rows ≡ false → admission bytes words rows cost ≡ notAdmitted rows words (refusal unsoundBoard 0)
+    unfolding admission
+    unsound e = rw (first, e)
 
-  -- neither
-  pub sound : wordsMax ≤ length words → isSound rows ≡ true → admission bytes words rows ≡ onTask (notAdmitted rows words) (entered rows words) bytes
-  unfolding admission
-  sound h e = rw (le-ltb (length words) wordsMax h, e)
+    -- neither
+    pub sound : isSound rows ≡ true → admission bytes words rows cost ≡ onTask (notAdmitted rows words) (entered rows words) bytes cost
+    unfolding admission
+    sound e = rw (first, e)
+
+-- where there is no board, by the outcome of the same rules
+pub none-refused : (words cost : ℕ) {r : Refusal} → beforeReading words cost ≡ outcome.Refused r → refused r ≡ noBoard words cost
+none-refused words cost e = rw e
+
+pub none-unsound : (words cost : ℕ) → beforeReading words cost ≡ outcome.Accepted → refused (refusal unsoundBoard 0) ≡ noBoard words cost
+none-unsound words cost e = rw e
 
 -- a refusal as the code returns it: row 0 written as it was, and the words as they were lent
 pub leaves : (rows : List Row) {words : List ℕ} {r : Refusal} {x : Admission} {c : Change} {a : Answer} → x ≡ notAdmitted rows words r → c ≡ unchanged rows a → a ≡ refused r

@@ -1,17 +1,17 @@
--- Admitting a task, on a board by value: "Admitting checks 16, 17," the reader's refusals, "10, 11, 12, 13."
+-- Admitting a task, on a board by value: 26 "before all others"; "Admitting checks 16, 17," the reader's refusals, "10, 11, 12, 13."
 use mathlib.Core.List.{List}
 use Prim.Native.Nat.{ℕ}
-use lib.Dec.{eqb, ltb}
+use lib.Dec.{eqb}
 use lib.ListN.{length}
 use Rattle.plain.specs.Pick.{pick}
-use Rattle.refusals.specs.Numbers.{fewWords, unsoundBoard}
+use Rattle.refusals.specs.Numbers.{unsoundBoard}
 use Rattle.refusals.specs.declared.Refusal.{Refusal}
-use Rattle.refusals.specs.Refusal.{refusal}
+use Rattle.refusals.specs.Refusal.{refusal, onOutcome}
 use Rattle.refusals.specs.Answer.{refused}
 use Rattle.tables.specs.declared.TaskTable.{TaskTable}
 use Rattle.plans.specs.Shares.{density}
-use Rattle.plans.specs.Words.{wordsMax, written}
-use Rattle.plans.specs.Calls.{onTask}
+use Rattle.plans.specs.Words.{written}
+use Rattle.plans.specs.Calls.{beforeReading, onTask}
 use Rattle.boards.specs.declared.Row.{Row}
 use Rattle.boards.specs.declared.Change.{Change}
 use Rattle.boards.specs.Row.{taskRow}
@@ -37,9 +37,9 @@ entered rows words t =
     let c : Change = placed rows (rowOf t) in
     record { change = c; words = pick (eqb (c .answer .refusal) 0) (written t words) words }
 
--- 16, 17, then the reader's, 10, 11 by `onTask`, then 12, 13 by `entered`
-unfoldable pub admission : List ℕ → List ℕ → List Row → Admission
-admission bytes words rows =
-    pick (ltb (length words) wordsMax) (notAdmitted rows words (refusal fewWords 0))
-    (pick (isSound rows) (onTask (notAdmitted rows words) (entered rows words) bytes)
-    (notAdmitted rows words (refusal unsoundBoard 0)))
+-- 26, 16 by `beforeReading`, 17, then the reader's, 10, 11 by `onTask`, then 12, 13 by `entered`
+unfoldable pub admission : List ℕ → List ℕ → List Row → (cost : ℕ) → Admission
+admission bytes words rows cost =
+    onOutcome (notAdmitted rows words)
+    (pick (isSound rows) (onTask (notAdmitted rows words) (entered rows words) bytes cost) (notAdmitted rows words (refusal unsoundBoard 0)))
+    (beforeReading (length words) cost)

@@ -2,14 +2,13 @@
 use boards::Board;
 use boards::Change;
 use boards::Row;
-use plans::WORDS_MAX;
 use refusals::Answer;
 use refusals::Outcome;
-use refusals::Refusal;
 use tables::TaskTable;
 ghost use mathlib.Core.Path.{_≡_};
 ghost use Prim.Native.Nat.{_≤_, _<_};
 ghost use lib.ListN.{length};
+ghost use Rattle.tables.specs.Cost.{costed};
 ghost use Rattle.tables.specs.Inner.Plannable.{Plannable};
 ghost use Rattle.plans.specs.Words.{wordsMax};
 ghost use Rattle.plans.specs.Calls.{onTable};
@@ -18,22 +17,23 @@ ghost use Rattle.admissions.specs.Admission.{notAdmitted, entered, admis
 ghost use Rattle.admissions.specs.Inner.NoBoard.{noBoard};
 
 // What admitting answers where the board doesn't have 16 rows.
-pub fn no_board(words: usize) -> Answer
-    ensures { λ r. ⌜ r ≡ noBoard words ⌝ }
+pub fn no_board(words: usize, cost: u64) -> Answer
+    ensures { λ r. ⌜ r ≡ noBoard words cost ⌝ }
 {
-    if words < WORDS_MAX {
-        return Answer::refused(Refusal::of(Refusal::FEW_WORDS, 0));
-    }
+    let first = plans::before_reading(words, cost);
+    let Outcome::Accepted = first else {
+        return refusals::answer_of(first);
+    };
     boards::unsound()
 }
 
 // A task that was read. Its place is found first, since 12 and 13 look only at its id; they are told after 10 and 11, and the words are
 // written only where none of the four is given.
-fn admit_table(words: &mut [u64], table: TaskTable, board: Board) -> Change
-    requires { ⌜ Plannable table × (wordsMax ≤ length (now words)) ⌝ }
-    ensures { λ r. ⌜ (r ≡ onTable (notAdmitted (board .rows) (now (words .entry))) (entered (board .rows) (now (words .entry))) table .change)
+fn admit_table(words: &mut [u64], table: TaskTable, board: Board, cost: u64) -> Change
+    requires { ⌜ Plannable (costed table cost) × (wordsMax ≤ length (now words)) ⌝ }
+    ensures { λ r. ⌜ (r ≡ onTable (notAdmitted (board .rows) (now (words .entry))) (entered (board .rows) (now (words .entry))) (costed table cost) .change)
         × (r .at < rowsMax)
-        × (now (words .exit) ≡ onTable (notAdmitted (board .rows) (now (words .entry))) (entered (board .rows) (now (words .entry))) table .words) ⌝ }
+        × (now (words .exit) ≡ onTable (notAdmitted (board .rows) (now (words .entry))) (entered (board .rows) (now (words .entry))) (costed table cost) .words) ⌝ }
 {
     let id = table.id;
     let n = table.count;
@@ -47,7 +47,7 @@ fn admit_table(words: &mut [u64], table: TaskTable, board: Board) -> Change
         },
     );
     let later = found.answer;
-    let planning = plans::plan_table(words, table, later);
+    let planning = plans::plan_table(words, table, cost, later);
     let answer = planning.answer;
     if answer.refusal != 0 {
         return boards::unchanged(board, answer);
@@ -66,15 +66,16 @@ fn admit_table(words: &mut [u64], table: TaskTable, board: Board) -> Change
     }
 }
 
-// Admits the task of a record: 16, 17, the reader's refusals, and then its table.
-pub fn admission(bytes: &[u8], words: &mut [u64], board: Board) -> Change
-    ensures { λ r. ⌜ (r ≡ admission (now (bytes .entry)) (now (words .entry)) (board .rows) .change)
+// Admits the task of a record, each step with the cost: 26, 16, 17, the reader's refusals, and then its table.
+pub fn admission(bytes: &[u8], words: &mut [u64], board: Board, cost: u64) -> Change
+    ensures { λ r. ⌜ (r ≡ admission (now (bytes .entry)) (now (words .entry)) (board .rows) cost .change)
         × (r .at < rowsMax)
-        × (now (words .exit) ≡ admission (now (bytes .entry)) (now (words .entry)) (board .rows) .words) ⌝ }
+        × (now (words .exit) ≡ admission (now (bytes .entry)) (now (words .entry)) (board .rows) cost .words) ⌝ }
 {
-    if words.len() < WORDS_MAX {
-        return boards::unchanged(board, Answer::refused(Refusal::of(Refusal::FEW_WORDS, 0)));
-    }
+    let first = plans::before_reading(words.len(), cost);
+    let Outcome::Accepted = first else {
+        return boards::unchanged(board, refusals::answer_of(first));
+    };
     if !boards::is_sound(board) {
         return boards::unchanged(board, boards::unsound());
     }
@@ -83,5 +84,5 @@ pub fn admission(bytes: &[u8], words: &mut [u64], board: Board) -> Change
     let Outcome::Accepted = outcome else {
         return boards::unchanged(board, refusals::answer_of(outcome));
     };
-    admit_table(words, reading.table, board)
+    admit_table(words, reading.table, board, cost)
 }

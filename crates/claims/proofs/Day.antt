@@ -10,6 +10,7 @@ use Rattle.plain.specs.Sums.{maxTo}
 use Rattle.plain.proofs.Sums.{sumTo-le, maxTo-le, le-maxTo}
 use Rattle.tables.specs.declared.TaskTable.{TaskTable}
 use Rattle.tables.specs.Limits.{countMax}
+use Rattle.tables.proofs.Cost.{plannable}
 use Rattle.boards.specs.declared.Row.{Row}
 use Rattle.boards.specs.Row.{freeRow, rowsMax, rowAt}
 use Rattle.boards.specs.Find.{placeOf}
@@ -66,7 +67,7 @@ module _ {s : State} (p : Paired s) where
   -- at most 64 nodes on each of 16 rows
   few-nodes : length (allNodes (s .standing)) ≤ rowsMax * countMax
   few-nodes =
-      let most = sumTo-le rowsMax countMax (figure (λ r. r .nodes) (s .rows)) (row-most (λ r. r .nodes) refl countMax (λ t m. p .stand t m .range .count-high)) in
+      let most = sumTo-le rowsMax countMax (figure (λ r. r .nodes) (s .rows)) (row-most (λ r. r .nodes) refl countMax (λ t m. plannable (p .stand t m .range) .count-high)) in
       let same = p .sums (λ r. r .nodes) refl in
       let all = length-nodes (s .standing) in
       omega arith

@@ -13,7 +13,7 @@ use Rattle.plain.proofs.Sums.{le-maxTo, maxTo-is}
 use Rattle.sets.specs.Greatest.{greatest}
 use Rattle.tables.specs.declared.TaskTable.{TaskTable}
 use Rattle.tables.specs.Inner.Plannable.{Plannable}
-use Rattle.tables.proofs.Plannable.{plannable}
+use Rattle.tables.proofs.Cost.{plannable}
 use Rattle.ways.specs.Reaches.{Loops}
 use Rattle.ways.specs.Closure.{loops}
 use Rattle.ways.specs.Ways.{begins}
@@ -87,7 +87,7 @@ tables-timed t range n =
     record {
       starts = ruled t r f (t .execution) (at (t .execution)) (λ p h. refl);
       finishes = diagram r f .ends;
-      path-latest = record { reached = some-latest (t .count) (finish t) (range .count-low); most = le-maxTo (t .count) (finish t) };
+      path-latest = record { reached = some-latest (t .count) (finish t) (let some = r .some-runs .1 in omega arith); most = le-maxTo (t .count) (finish t) };
       cuts = is-cutting (diagram r f);
       only-cuts = λ s c k. one-cutting (diagram r f) k;
       few-segments = segments-le (t .count) (finish t);

@@ -9,6 +9,7 @@ pub mod Withdraw
 pub mod Ask
 pub mod Print
 pub mod Diagram
+pub mod Cost
 mod Standing
 mod Pairing
 mod Verdict

@@ -13,6 +13,7 @@ use borrow.Author.Tests.{eqb-true, eqb-false}
 use Rattle.plain.specs.Pick.{pick}
 use Rattle.plain.specs.Sums.{sumTo}
 use Rattle.tables.specs.declared.TaskTable.{TaskTable}
+use Rattle.tables.proofs.Cost.{plannable}
 use Rattle.plans.specs.Accepted.{Accepted}
 use Rattle.plans.specs.Calls.{taskOf}
 use Rattle.boards.specs.declared.Row.{Row}
@@ -73,7 +74,7 @@ module _ {rows : List Row} (s : Sound rows) (at : ℕ) (h : at < rowsMax) (new :
 
 -- the row of an accepted table has an id
 pub id-some : {t : TaskTable} → Accepted t → t .id ≡ 0 → ⊥
-id-some ok e = let l = ok .range .id-low in omega arith
+id-some ok e = let l = plannable (ok .range) .id-low in omega arith
 
 -- an admission
 module _ {s : State} (p : Paired s) (t : TaskTable) (ok : Accepted t) (new : rowsMax ≤ placeOf (t .id) (s .rows)) (free : freeAt (s .rows) < rowsMax) (fine : Sound (set (s .rows) (freeAt (s .rows)) (rowOf t))) where
@@ -183,16 +184,16 @@ module _ {s : State} (p : Paired s) (id : ℕ) (w : Withdrew (s .rows) id (withd
 -- every call keeps the pairing
 pub paired-call : (call : Call) {s : State} → Paired s → Paired (afterCall call s)
 unfolding afterCall
-paired-call (admit bytes words) {s} p = go (eqb (admission bytes words (s .rows) .change .answer .refusal) 0) refl
+paired-call (admit bytes words cost) {s} p = go (eqb (admission bytes words (s .rows) cost .change .answer .refusal) 0) refl
   where
-    go : (b : Bool) → eqb (admission bytes words (s .rows) .change .answer .refusal) 0 ≡ b
-        → Paired (record { rows = admitCall bytes words (s .rows) .lent .rows; standing = pick b (taskOf bytes ∷ s .standing) (s .standing); admitted = pick b (taskOf bytes ∷ s .admitted) (s .admitted) })
+    go : (b : Bool) → eqb (admission bytes words (s .rows) cost .change .answer .refusal) 0 ≡ b
+        → Paired (record { rows = admitCall bytes words (s .rows) cost .lent .rows; standing = pick b (taskOf bytes cost ∷ s .standing) (s .standing); admitted = pick b (taskOf bytes cost ∷ s .admitted) (s .admitted) })
     go true e =
-        let a = admit-accepted bytes words (s .rows) (eqb-true _ 0 e) in
+        let a = admit-accepted bytes words (s .rows) cost (eqb-true _ 0 e) in
         let written = ap (λ (x : Admission). changed (s .rows) (x .change)) (a .is) in
-        let fine = admission-sound bytes words (s .rows) (p .sound) in
-        rw written (paired-joined p (taskOf bytes) (a .table) (a .new) (a .free) (rw (a .is) at fine))
-    go false e = rw (ap (λ (l : Lent). l .rows) (admit-untouched bytes words (s .rows) (eqb-false _ 0 e))) p
+        let fine = admission-sound bytes words (s .rows) cost (p .sound) in
+        rw written (paired-joined p (taskOf bytes cost) (a .table) (a .new) (a .free) (rw (a .is) at fine))
+    go false e = rw (ap (λ (l : Lent). l .rows) (admit-untouched bytes words (s .rows) cost (eqb-false _ 0 e))) p
 paired-call (withdraw id) {s} p = go (eqb (withdrawn (s .rows) id .answer .refusal) 0) refl
   where
     go : (b : Bool) → eqb (withdrawn (s .rows) id .answer .refusal) 0 ≡ b

@@ -11,6 +11,7 @@ use Rattle.refusals.specs.declared.Answer.{Answer}
 use Rattle.refusals.specs.Refusal.{refusal}
 use Rattle.refusals.specs.Answer.{refused}
 use Rattle.refusals.specs.After.{After}
+use Rattle.tables.proofs.Cost.{plannable}
 use Rattle.segments.proofs.Segments.{segments-le}
 use Rattle.plans.specs.Diagram.{finish}
 use Rattle.plans.specs.Words.{wordsMax}
@@ -30,7 +31,7 @@ use Rattle.claims.specs.Rule.{IsAccepted}
 use Rattle.claims.specs.Print.{OfPrinting}
 use Rattle.claims.proofs.Record.{unread-some}
 use Rattle.claims.proofs.Plan.{PlanCase, planning}
-use Rattle.claims.proofs.Plan.PlanCase.{few, tries}
+use Rattle.claims.proofs.Plan.PlanCase.{dear, few, tries}
 
 -- a line says a refusal's number and place, as the answer does
 same-line : {q r : Refusal} → refused q ≡ refused r → refusedLine q ≡ refusedLine r
@@ -38,30 +39,32 @@ same-line e = ap (λ (a : Answer). line ((text "refused ", a .refusal) ∷ (text
 
 module _ (bytes words : List ℕ) where
   -- a refusal
-  refusal-line : (r : Refusal) → 387 ≤ length words → {x : After (List ℕ)} → PlanCase bytes words x → x .answer ≡ refused r → sheetOf bytes ≡ refusedLine r
-  refusal-line r w (few l) a = absurd (omega arith)
-  refusal-line r w (tries _ (unread q e)) a = task-refused refusedLine tableSheet bytes e ∙ same-line a
-  refusal-line r w (tries _ (round e l)) a = task-read refusedLine tableSheet bytes e ∙ on-loop refusedLine tableSheet (taskOf bytes) l ∙ same-line a
-  refusal-line r w (tries _ (long e l h)) a = task-read refusedLine tableSheet bytes e ∙ on-long refusedLine tableSheet (taskOf bytes) l h ∙ same-line a
-  refusal-line r w (tries _ (goes e ok)) a = absurd (let v = ap (λ (x : Answer). x .value) a in omega arith)
+  refusal-line : (r : Refusal) → 387 ≤ length words → {x : After (List ℕ)} → PlanCase bytes words 0 x → x .answer ≡ refused r → sheetOf bytes ≡ refusedLine r
+  refusal-line r w (dear c) a = absurd (omega arith)
+  refusal-line r w (few _ l) a = absurd (omega arith)
+  refusal-line r w (tries _ _ (unread q e)) a = task-refused refusedLine tableSheet bytes 0 e ∙ same-line a
+  refusal-line r w (tries _ _ (round e l)) a = task-read refusedLine tableSheet bytes 0 e ∙ on-loop refusedLine tableSheet (taskOf bytes 0) l ∙ same-line a
+  refusal-line r w (tries _ _ (long e l h)) a = task-read refusedLine tableSheet bytes 0 e ∙ on-long refusedLine tableSheet (taskOf bytes 0) l h ∙ same-line a
+  refusal-line r w (tries _ _ (goes e ok)) a = absurd (let v = ap (λ (x : Answer). x .value) a in omega arith)
 
   -- a plan
-  plan-sheet : {x : After (List ℕ)} → PlanCase bytes words x → IsAccepted (x .answer) → sheetOf bytes ≡ tableSheet (taskOf bytes)
-  plan-sheet (few l) z = absurd (eqb-false fewWords 0 refl z)
-  plan-sheet (tries _ (unread q e)) z = absurd (unread-some bytes q e z)
-  plan-sheet (tries _ (round e l)) z = absurd (eqb-false loop 0 refl z)
-  plan-sheet (tries _ (long e l h)) z = absurd (eqb-false longPath 0 refl z)
-  plan-sheet (tries _ (goes e ok)) z = task-read refusedLine tableSheet bytes e ∙ on-fits refusedLine tableSheet (taskOf bytes) (ok .free) (ok .fits)
+  plan-sheet : {x : After (List ℕ)} → PlanCase bytes words 0 x → IsAccepted (x .answer) → sheetOf bytes ≡ tableSheet (taskOf bytes 0)
+  plan-sheet (dear c) z = absurd (omega arith)
+  plan-sheet (few _ l) z = absurd (eqb-false fewWords 0 refl z)
+  plan-sheet (tries _ _ (unread q e)) z = absurd (unread-some bytes q e z)
+  plan-sheet (tries _ _ (round e l)) z = absurd (eqb-false loop 0 refl z)
+  plan-sheet (tries _ _ (long e l h)) z = absurd (eqb-false longPath 0 refl z)
+  plan-sheet (tries _ _ (goes e ok)) z = task-read refusedLine tableSheet bytes 0 e ∙ on-fits refusedLine tableSheet (taskOf bytes 0) (ok .free) (ok .fits)
 
 -- every sheet fits
-fits : (bytes : List ℕ) {x : List ℕ} → Tasking refusedLine tableSheet bytes x → length x ≤ sheetMax
+fits : (bytes : List ℕ) {x : List ℕ} → Tasking refusedLine tableSheet bytes 0 x → length x ≤ sheetMax
 fits bytes (unread r e) = refusal-fits r
-fits bytes (round e l) = refusal-fits (loopIn (taskOf bytes))
+fits bytes (round e l) = refusal-fits (loopIn (taskOf bytes 0))
 fits bytes (long e l h) = refusal-fits (refusal longPath 0)
 fits bytes (goes e ok) =
-    let t = taskOf bytes in
+    let t = taskOf bytes 0 in
     let few = segments-le (t .count) (finish t) in
-    let most = ok .range .count-high in
+    let most = plannable (ok .range) .count-high in
     sheet-fits (headOf t) _ (rw (at-segments t (replicate wordsMax 0)) (omega arith)) (rw (at-nodes t (replicate wordsMax 0)) most)
 
 -- at the front nothing stands before the text
@@ -72,9 +75,9 @@ front text out h = let none : 0 + length text ≡ length text = omega arith in r
 -- the promises
 pub of-printing : OfPrinting
 of-printing = record {
-  refusal = λ bytes words r w a. refusal-line bytes words r w (planning bytes words) a;
-  sheet = λ bytes words z. plan-sheet bytes words (planning bytes words) z;
-  fits = λ bytes. fits bytes (tasking refusedLine tableSheet bytes);
+  refusal = λ bytes words r w a. refusal-line bytes words r w (planning bytes words 0) a;
+  sheet = λ bytes words z. plan-sheet bytes words (planning bytes words 0) z;
+  fits = λ bytes. fits bytes (tasking refusedLine tableSheet bytes 0 (omega arith));
   written = λ bytes out h. front (sheetOf bytes) out h;
   untouched = λ bytes out h. rw (lt-ltb (length out) sheetMax h);
 }

@@ -7,6 +7,7 @@ use Rattle.claims.proofs.Withdraw.{of-withdrawing}
 use Rattle.claims.proofs.Ask.{of-asking}
 use Rattle.claims.proofs.Print.{of-printing}
 use Rattle.claims.proofs.Diagram.{tables-timed}
+use Rattle.claims.proofs.Cost.{of-cost}
 use Rattle.claims.proofs.Day.{day}
 use Rattle.claims.proofs.Starred.{all-come}
 
@@ -20,6 +21,7 @@ promises = record {
   asking = of-asking;
   printing = of-printing;
   tables-timed = tables-timed;
+  cost = of-cost;
   day = day;
   starred = all-come;
 }

@@ -15,7 +15,7 @@ use Rattle.refusals.specs.Refusal.{refusal, looped}
 use Rattle.refusals.specs.Answer.{refused}
 use Rattle.refusals.proofs.Readers.{readers-low, readers-not-loop}
 use Rattle.tables.specs.declared.TaskTable.{TaskTable}
-use Rattle.tables.proofs.Plannable.{plannable}
+use Rattle.tables.proofs.Cost.{costed-range, plannable}
 use Rattle.records.specs.declared.Reading.{Reading}
 use Rattle.records.specs.Reading.{readingOf}
 use Rattle.numbers.specs.Number.{recordMore}
@@ -89,17 +89,17 @@ read-clear : {bytes : List ℕ} → readingOf bytes .outcome ≡ Accepted → (r
 read-clear e r (k, p, f, d) = not-both (outcome-of f) e
 
 -- a table that was read, by the test: none of its nodes goes round, or the one that is named does, inside its ring
-module _ (bytes : List ℕ) (e : readingOf bytes .outcome ≡ Accepted) where
-  parents-tidy : Tidy (taskOf bytes .parents) (taskOf bytes .count)
-  parents-tidy = tidy (plannable (accepted-table bytes e))
+module _ (bytes : List ℕ) (cost : ℕ) (e : readingOf bytes .outcome ≡ Accepted) where
+  parents-tidy : Tidy (taskOf bytes cost .parents) (taskOf bytes cost .count)
+  parents-tidy = tidy (plannable (costed-range {cost = 0} (accepted-table bytes e) (omega arith)))
 
-  no-loop : loops (taskOf bytes .parents) (taskOf bytes .count) ≡ false → (r : Refusal) → loopRule (taskOf bytes) r → ⊥
-  no-loop l r w = loops-no (taskOf bytes .parents) (taskOf bytes .count) parents-tidy l (w .0) (w .1 .here)
+  no-loop : loops (taskOf bytes cost .parents) (taskOf bytes cost .count) ≡ false → (r : Refusal) → loopRule (taskOf bytes cost) r → ⊥
+  no-loop l r w = loops-no (taskOf bytes cost .parents) (taskOf bytes cost .count) parents-tidy l (w .0) (w .1 .here)
 
-  some-loop : loops (taskOf bytes .parents) (taskOf bytes .count) ≡ true → NamesLoop (taskOf bytes) (refused (loopIn (taskOf bytes)))
+  some-loop : loops (taskOf bytes cost .parents) (taskOf bytes cost .count) ≡ true → NamesLoop (taskOf bytes cost) (refused (loopIn (taskOf bytes cost)))
   some-loop l =
       let n = named-smallest parents-tidy l in
-      record { smallest = n; round = one-round parents-tidy (named (taskOf bytes .parents) (taskOf bytes .count)) (n .here) }
+      record { smallest = n; round = one-round parents-tidy (named (taskOf bytes cost .parents) (taskOf bytes cost .count)) (n .here) }
 
 -- 10, by the node that is named
 gives-loop : (t : TaskTable) {answer : Answer} → Smallest (t .parents) (loopIn t .place) → answer ≡ refused (loopIn t) → (r : Refusal) × loopRule t r × (answer ≡ refused r)
@@ -107,14 +107,14 @@ gives-loop t s e = (loopIn t, (loopIn t .place, s, refl), e)
 
 -- a record's rules, with those after them, decide what its task comes to
 pub decided : {A : Type 0} {refuse : Refusal → A} {go : TaskTable → A} (answer : A → Answer) (told : (r : Refusal) → answer (refuse r) ≡ refused r)
-    (bytes : List ℕ) (rest : List Rule) (value : ℕ → Type 0)
-    → (readingOf bytes .outcome ≡ Accepted → Accepted-table (taskOf bytes) → Decides rest value (answer (go (taskOf bytes))))
-    → {x : A} → Tasking refuse go bytes x → Decides (recordRules bytes ++ rest) value (answer x)
-decided answer told bytes rest value entry (unread r e) = let w = refused-rule bytes r e in inl (r, (r .number, r .place, w .0, w .1), told r)
-decided answer told bytes rest value entry (round e l) = inr (read-clear e, inl (gives-loop (taskOf bytes) (some-loop bytes e l .smallest) (told (loopIn (taskOf bytes)))))
-decided answer told bytes rest value entry (long e l h) = inr (read-clear e, inr (no-loop bytes e l, inl (gives 11 h (told (refusal 11 0)))))
-decided answer told bytes rest value entry (goes e ok) =
-    inr (read-clear e, inr (no-loop bytes e (ok .free), inr (not-given (λ h. let f = ok .fits in omega arith), entry e ok)))
+    (bytes : List ℕ) (cost : ℕ) (rest : List Rule) (value : ℕ → Type 0)
+    → (readingOf bytes .outcome ≡ Accepted → Accepted-table (taskOf bytes cost) → Decides rest value (answer (go (taskOf bytes cost))))
+    → {x : A} → Tasking refuse go bytes cost x → Decides (recordRules bytes cost ++ rest) value (answer x)
+decided answer told bytes cost rest value entry (unread r e) = let w = refused-rule bytes r e in inl (r, (r .number, r .place, w .0, w .1), told r)
+decided answer told bytes cost rest value entry (round e l) = inr (read-clear e, inl (gives-loop (taskOf bytes cost) (some-loop bytes cost e l .smallest) (told (loopIn (taskOf bytes cost)))))
+decided answer told bytes cost rest value entry (long e l h) = inr (read-clear e, inr (no-loop bytes cost e l, inl (gives 11 h (told (refusal 11 0)))))
+decided answer told bytes cost rest value entry (goes e ok) =
+    inr (read-clear e, inr (no-loop bytes cost e (ok .free), inr (not-given (λ h. let f = ok .fits in omega arith), entry e ok)))
 
 -- the reader gives one refusal
 reader-single : (bytes : List ℕ) → Single (readerRule bytes)
@@ -136,13 +136,13 @@ loop-single t = record {
   bare = λ r p n. absurd (n (ap (λ (x : Refusal). x .number) (p .2)));
 }
 
-pub record-singles : (bytes : List ℕ) → Singles (recordRules bytes)
-record-singles bytes = (reader-single bytes, (loop-single (taskOf bytes), (single _ _, tt)))
+pub record-singles : (bytes : List ℕ) (cost : ℕ) → Singles (recordRules bytes cost)
+record-singles bytes cost = (reader-single bytes, (loop-single (taskOf bytes cost), (single _ _, tt)))
 
 -- an answer with refusal 10 is that of a task that goes round
 pub names-loop : {A : Type 0} {refuse : Refusal → A} {go : TaskTable → A} (answer : A → Answer) (told : (r : Refusal) → answer (refuse r) ≡ refused r)
-    (bytes : List ℕ) → (answer (go (taskOf bytes)) .refusal ≡ 10 → ⊥) → {x : A} → Tasking refuse go bytes x → answer x .refusal ≡ 10 → NamesLoop (taskOf bytes) (answer x)
-names-loop answer told bytes other (unread r e) z = absurd (readers-not-loop (r .number) (refused-told bytes r e .own) (rw (told r) at z))
-names-loop answer told bytes other (round e l) z = rw (told (loopIn (taskOf bytes))) (some-loop bytes e l)
-names-loop answer told bytes other (long e l h) z = absurd (eqb-false longPath loop refl (rw (told (refusal longPath 0)) at z))
-names-loop answer told bytes other (goes e ok) z = absurd (other z)
+    (bytes : List ℕ) (cost : ℕ) → (answer (go (taskOf bytes cost)) .refusal ≡ 10 → ⊥) → {x : A} → Tasking refuse go bytes cost x → answer x .refusal ≡ 10 → NamesLoop (taskOf bytes cost) (answer x)
+names-loop answer told bytes cost other (unread r e) z = absurd (readers-not-loop (r .number) (refused-told bytes r e .own) (rw (told r) at z))
+names-loop answer told bytes cost other (round e l) z = rw (told (loopIn (taskOf bytes cost))) (some-loop bytes cost e l)
+names-loop answer told bytes cost other (long e l h) z = absurd (eqb-false longPath loop refl (rw (told (refusal longPath 0)) at z))
+names-loop answer told bytes cost other (goes e ok) z = absurd (other z)

@@ -29,7 +29,7 @@ use Rattle.shares.specs.Density.{millionths}
 use Rattle.shares.specs.Triples.{triples}
 use Rattle.plans.specs.Shares.{numeratorOf, deadline, offset, density}
 use Rattle.plans.specs.Words.{frontWords, nodeWords}
-use Rattle.plans.specs.Calls.{onTable, onTask, planCall}
+use Rattle.plans.specs.Calls.{beforeReading, onTable, onTask, planCall}
 use Rattle.boards.specs.Find.{placeOf}
 use Rattle.boards.specs.Sound.{isSoundRow, allTo, isNew, isSound}
 use Rattle.boards.specs.Verdict.{sumOf, largestOf}
@@ -45,6 +45,6 @@ use Rattle.claims.specs.Starred.AllCome.{done, _also_}
 
 -- every line of the list
 pub all-come : Starred
-unfolding starred kindsTo afterCall afterCalls sheetText linesTo line field decimal digits admission entered placed asked isSound isSoundRow isNew allTo sumOf largestOf placeOf planCall onTask onTable frontWords nodeWords numeratorOf deadline offset density share deal numerator millionths triples isHeavy heavies heavyWork lightLength segments lengthOf cut next nextTo running runningIn runs threads begins ends endsAfter workOf pathOf loops some reach stages stage union inside smallest unlessNeeded ringAfter withoutMember readingOf nodes nothingFollows allZero parentSet parents andThen ranged whole number before tab greatest setOf sizeTo bit sumTo maxTo upTo
+unfolding starred kindsTo afterCall afterCalls sheetText linesTo line field decimal digits admission entered placed asked isSound isSoundRow isNew allTo sumOf largestOf placeOf planCall beforeReading onTask onTable frontWords nodeWords numeratorOf deadline offset density share deal numerator millionths triples isHeavy heavies heavyWork lightLength segments lengthOf cut next nextTo running runningIn runs threads begins ends endsAfter workOf pathOf loops some reach stages stage union inside smallest unlessNeeded ringAfter withoutMember readingOf nodes nothingFollows allZero parentSet parents andThen ranged whole number before tab greatest setOf sizeTo bit sumTo maxTo upTo
 all-come =
     refl also refl also refl also refl also refl also refl also refl also refl also refl also refl also refl also refl also refl also refl also refl also refl also refl also refl also refl also refl also refl also refl also refl also refl also refl also refl also done

@@ -11,21 +11,21 @@ use Rattle.boards.specs.Row.{freeRow}
 use Rattle.plans.specs.Calls.{taskOf}
 use Rattle.planner.specs.Calls.{admitCall, withdrawCall, askCall}
 
--- a call, with what it is lent beside the board
+-- a call, with what it is lent and told beside the board
 pub data Call : Type 0 where
-  admit : (bytes words : List ℕ) → Call
+  admit : (bytes words : List ℕ) (cost : ℕ) → Call
   withdraw : (id : ℕ) → Call
   ask : (cores : ℕ) → Call
 
 -- what a call answers, by its own definition; any words may be lent
 abbrev pub answerTo : Call → List Row → Answer
-answerTo (admit bytes words) rows = admitCall bytes words rows .answer
+answerTo (admit bytes words cost) rows = admitCall bytes words rows cost .answer
 answerTo (withdraw id) rows = withdrawCall rows id .answer
 answerTo (ask cores) rows = askCall rows cores .answer
 
 -- the rows that it leaves
 abbrev pub rowsAfter : Call → List Row → List Row
-rowsAfter (admit bytes words) rows = admitCall bytes words rows .lent .rows
+rowsAfter (admit bytes words cost) rows = admitCall bytes words rows cost .lent .rows
 rowsAfter (withdraw id) rows = withdrawCall rows id .lent
 rowsAfter (ask cores) rows = askCall rows cores .lent
 
@@ -38,15 +38,16 @@ without id (t ∷ ts) = pick (eqb (t .id) id) (without id ts) (t ∷ without id 
 abbrev pub ifAccepted : Answer → (after before : List TaskTable) → List TaskTable
 ifAccepted answer after before = pick (eqb (answer .refusal) 0) after before
 
--- the tables standing after a call: an accepted admission adds its record's table, an accepted withdrawal takes off the one with its id
+-- the tables standing after a call: an accepted admission adds its record's table, "with the cost it came in with", an accepted withdrawal takes
+-- off the one with its id
 abbrev pub nextStanding : Call → Answer → List TaskTable → List TaskTable
-nextStanding (admit bytes words) answer ts = ifAccepted answer (taskOf bytes ∷ ts) ts
+nextStanding (admit bytes words cost) answer ts = ifAccepted answer (taskOf bytes cost ∷ ts) ts
 nextStanding (withdraw id) answer ts = ifAccepted answer (without id ts) ts
 nextStanding (ask cores) answer ts = ts
 
 -- the tables ever admitted, after a call
 abbrev pub nextAdmitted : Call → Answer → List TaskTable → List TaskTable
-nextAdmitted (admit bytes words) answer ts = ifAccepted answer (taskOf bytes ∷ ts) ts
+nextAdmitted (admit bytes words cost) answer ts = ifAccepted answer (taskOf bytes cost ∷ ts) ts
 nextAdmitted (withdraw id) answer ts = ts
 nextAdmitted (ask cores) answer ts = ts
 

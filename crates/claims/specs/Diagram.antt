@@ -6,7 +6,7 @@ use Rattle.plain.specs.At.{at}
 use Rattle.sets.specs.Member.{Member}
 use Rattle.sets.specs.Greatest.{greatest}
 use Rattle.tables.specs.declared.TaskTable.{TaskTable}
-use Rattle.tables.specs.Range.{InRange}
+use Rattle.tables.specs.Cost.{CostedRange}
 use Rattle.ways.specs.Reaches.{Loops}
 use Rattle.segments.specs.Cut.{cut}
 use Rattle.segments.specs.Cutting.{Cutting}
@@ -62,6 +62,6 @@ pub record Timed (t : TaskTable) : Type 0 where
   -- and adds no cut: after 0, each cut is the finish of a node that runs
   pub run-cuts : (j : ℕ) → j < segmentCount t → (v : ℕ) × (v < t .count) × (1 ≤ at (t .execution) v) × (finish t v ≡ cutOf t (suc j))
 
--- they hold of every table in range in which no node is reached from itself, so also of those that 11 refuses
+-- they hold of every table in range, with any cost, in which no node is reached from itself, so also of those that 11 refuses
 abbrev pub TablesTimed : Type 0
-TablesTimed = (t : TaskTable) → InRange t → (Loops (t .parents) (t .count) → ⊥) → Timed t
+TablesTimed = (t : TaskTable) → CostedRange t → (Loops (t .parents) (t .count) → ⊥) → Timed t

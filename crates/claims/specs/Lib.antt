@@ -8,6 +8,7 @@ pub mod Withdraw
 pub mod Ask
 pub mod Print
 pub mod Diagram
+pub mod Cost
 pub mod Calls
 pub mod Day
 pub mod Starred

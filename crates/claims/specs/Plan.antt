@@ -18,13 +18,17 @@ use Rattle.claims.specs.Rule.{Rule, rule, IsAccepted}
 use Rattle.claims.specs.Promise.{Promise}
 use Rattle.claims.specs.Record.{recordRules, NamesLoop}
 
--- "Planning checks 16, then" the reader's refusals "as met, then 10, 11"; 16 is "the lent plan has fewer than 387 words"
-abbrev pub planRules : (bytes words : List ℕ) → List Rule
-planRules bytes words = rule 16 (length words < 387) ∷ recordRules bytes
+-- 26, "cost above 255, before all others"; "Planning checks 16, then" the reader's refusals "as met, then 10, 11"; 16 is "the lent plan has fewer
+-- than 387 words"
+abbrev pub planRules : (bytes words : List ℕ) (cost : ℕ) → List Rule
+planRules bytes words cost =
+    rule 26 (255 < cost)
+    ∷ rule 16 (length words < 387)
+    ∷ recordRules bytes cost
 
 -- "Planning returns that number of words": 3 + 3s + 3n
-abbrev pub planValue : List ℕ → ℕ → Type 0
-planValue bytes v = v ≡ 3 + 3 * segmentCount (taskOf bytes) + 3 * taskOf bytes .count
+abbrev pub planValue : TaskTable → ℕ → Type 0
+planValue t v = v ≡ 3 + 3 * segmentCount t + 3 * t .count
 
 -- the lent words with a table's plan in them: "Words past 3 + 3s + 3n keep their old content"
 abbrev pub withPlan : TaskTable → List ℕ → List ℕ
@@ -40,7 +44,7 @@ NotBelow r x = x .upper * 1000000 ≤ r * x .lower
 
 -- what holds of every table whose plan is accepted
 pub record GoodPlan (t : TaskTable) : Type 0 where
-  -- in range, no node reached from itself, the path within the period
+  -- in range, with a cost in range; no node reached from itself; the path within the period
   pub accepted : Accepted t
   -- the sentences of demand 3
   pub kept : Kept t
@@ -52,8 +56,9 @@ pub record GoodPlan (t : TaskTable) : Type 0 where
 
 -- the promises
 pub record OfPlanning : Type 0 where
-  pub call : (bytes words : List ℕ) → Promise (PlanAllows bytes words) words (planRules bytes words) (planValue bytes) (λ _. withPlan (taskOf bytes) words)
+  pub call : (bytes words : List ℕ) (cost : ℕ) →
+      Promise (PlanAllows bytes words cost) words (planRules bytes words cost) (planValue (taskOf bytes cost)) (λ _. withPlan (taskOf bytes cost) words)
   -- refusal 10 tells where the task goes round
-  pub loop : (bytes words : List ℕ) (a : After (List ℕ)) → PlanAllows bytes words a → a .answer .refusal ≡ 10 → NamesLoop (taskOf bytes) (a .answer)
+  pub loop : (bytes words : List ℕ) (cost : ℕ) (a : After (List ℕ)) → PlanAllows bytes words cost a → a .answer .refusal ≡ 10 → NamesLoop (taskOf bytes cost) (a .answer)
   -- demand 3
-  pub plan : (bytes words : List ℕ) (a : After (List ℕ)) → PlanAllows bytes words a → IsAccepted (a .answer) → GoodPlan (taskOf bytes)
+  pub plan : (bytes words : List ℕ) (cost : ℕ) (a : After (List ℕ)) → PlanAllows bytes words cost a → IsAccepted (a .answer) → GoodPlan (taskOf bytes cost)

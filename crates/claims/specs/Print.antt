@@ -11,12 +11,12 @@ use Rattle.sheets.specs.Sheet.{sheetMax}
 use Rattle.sheets.specs.Printed.{tableSheet, sheetOf, printed}
 use Rattle.claims.specs.Rule.{IsAccepted}
 
--- with words enough for a plan lent
+-- with words enough for a plan lent; "the programs use 0" as the cost
 pub record OfPrinting : Type 0 where
   -- "On a refusal it prints one line": that of the refusal which planning gives
-  pub refusal : (bytes words : List ℕ) (r : Refusal) → 387 ≤ length words → planCall bytes words .answer ≡ refused r → sheetOf bytes ≡ refusedLine r
+  pub refusal : (bytes words : List ℕ) (r : Refusal) → 387 ≤ length words → planCall bytes words 0 .answer ≡ refused r → sheetOf bytes ≡ refusedLine r
   -- else the lines of the plan
-  pub sheet : (bytes words : List ℕ) → IsAccepted (planCall bytes words .answer) → sheetOf bytes ≡ tableSheet (taskOf bytes)
+  pub sheet : (bytes words : List ℕ) → IsAccepted (planCall bytes words 0 .answer) → sheetOf bytes ≡ tableSheet (taskOf bytes 0)
   -- every sheet fits the buffer
   pub fits : (bytes : List ℕ) → length (sheetOf bytes) ≤ sheetMax
   -- the contract: the text stands at the front of a buffer that is large enough, "bytes past them keep their content"; a smaller one is untouched

@@ -6,6 +6,7 @@ use Rattle.claims.specs.Withdraw.{OfWithdrawing}
 use Rattle.claims.specs.Ask.{OfAsking}
 use Rattle.claims.specs.Print.{OfPrinting}
 use Rattle.claims.specs.Diagram.{TablesTimed}
+use Rattle.claims.specs.Cost.{OfCost}
 use Rattle.claims.specs.Day.{Day}
 use Rattle.claims.specs.Starred.{Starred}
 
@@ -20,6 +21,8 @@ pub record Promises : Type 0 where
   pub printing : OfPrinting
   -- every loop-free table's starts, cuts and offsets are those of document 01
   pub tables-timed : TablesTimed
+  -- what a cost does, and that a cost of 0 does nothing
+  pub cost : OfCost
   -- demand 3: the board after any list of calls
   pub day : Day
   -- the starred tables

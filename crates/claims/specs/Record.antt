@@ -34,11 +34,11 @@ abbrev pub loopRule : TaskTable → Rule
 loopRule t r = (node : ℕ) × Smallest (t .parents) node × (r ≡ looped node (ring (t .parents) (t .count) node))
 
 -- the reader's; 10; 11, "the path is longer than the period"
-abbrev pub recordRules : List ℕ → List Rule
-recordRules bytes =
+abbrev pub recordRules : List ℕ → (cost : ℕ) → List Rule
+recordRules bytes cost =
     readerRule bytes
-    ∷ loopRule (taskOf bytes)
-    ∷ rule 11 (taskOf bytes .period < path (taskOf bytes))
+    ∷ loopRule (taskOf bytes cost)
+    ∷ rule 11 (taskOf bytes cost .period < path (taskOf bytes cost))
     ∷ []
 
 -- an answer with refusal 10 names "the smallest node that is reached from itself", and shows "a loop through it", whichever is chosen

@@ -46,21 +46,25 @@ pub data Entry : Type 0 where
   -- after these calls, asking for so many cores gets this answer
   answers : (calls : List Call) (cores : ℕ) (answer : Answer) → Entry
 
+-- document 01's tables have no cost
+abbrev pub noCost : ℕ
+noCost = 0
+
 -- the words that are lent: as many as the largest plan has, all 0
 abbrev pub blank : List ℕ
 blank = replicate wordsMax 0
 
 -- a record is admitted
 abbrev pub admitting : List ℕ → Call
-admitting bytes = admit bytes blank
+admitting bytes = admit bytes blank noCost
 
 -- it comes out so: a plan's answer is the number of its words, and the words past them are as they were; a refusal writes nothing
 abbrev pub Comes : Entry → Type 0
-Comes (plans bytes words) = planCall bytes blank ≡ record { answer = accepted (length words); lent = words ++ drop (length words) blank }
-Comes (cuts bytes kinds) = kindsTo (segmentCount (taskOf bytes)) (taskOf bytes) ≡ kinds
+Comes (plans bytes words) = planCall bytes blank noCost ≡ record { answer = accepted (length words); lent = words ++ drop (length words) blank }
+Comes (cuts bytes kinds) = kindsTo (segmentCount (taskOf bytes noCost)) (taskOf bytes noCost) ≡ kinds
 Comes (prints bytes text) = sheetOf bytes ≡ text
-Comes (refuses bytes number place) = planCall bytes blank ≡ record { answer = refused (refusal number place); lent = blank }
-Comes (goes-round bytes node ring) = planCall bytes blank ≡ record { answer = refused (looped node ring); lent = blank }
+Comes (refuses bytes number place) = planCall bytes blank noCost ≡ record { answer = refused (refusal number place); lent = blank }
+Comes (goes-round bytes node ring) = planCall bytes blank noCost ≡ record { answer = refused (looped node ring); lent = blank }
 Comes (fills bytes row) = rowAt (boardAfter (admitting bytes ∷ [])) 0 ≡ row
 Comes (answers calls cores answer) = answerTo (ask cores) (boardAfter calls) ≡ answer
 

@@ -1,22 +1,22 @@
 -- Each call where the lent board doesn't have 16 rows: soundness begins with that number, so the board isn't sound, the call is refused as its rule says, and nothing is touched.
 use mathlib.Core.Path.{_≡_, refl, sym, ap, _∙_}
-use mathlib.Core.Bool.{Bool, true, false}
+use mathlib.Core.Bool.{false}
 use mathlib.Core.List.{List}
 use Prim.Native.Nat.{ℕ}
-use lib.Dec.{ltb}
 use lib.ListN.{length}
 use borrow.Author.Tests.{ne-eqb}
-use Rattle.plain.specs.Pick.{pick}
-use Rattle.refusals.specs.Numbers.{fewWords, unsoundBoard}
+use Rattle.refusals.specs.Numbers.{unsoundBoard}
 use Rattle.refusals.specs.declared.Answer.{Answer}
-use Rattle.refusals.specs.Refusal.{refusal}
+use Rattle.refusals.specs.declared.Outcome.{Outcome}
+use Rattle.refusals.specs.declared.Outcome.the-variants.{Accepted, Refused}
+use Rattle.refusals.specs.Refusal.{refusal, onOutcome}
 use Rattle.refusals.specs.Answer.{refused}
 use Rattle.boards.specs.declared.Row.{Row}
 use Rattle.boards.specs.declared.Change.{Change}
 use Rattle.boards.specs.Row.{rowsMax}
 use Rattle.boards.specs.Sound.{isSound}
 use Rattle.boards.specs.Change.{unchanged, changed, withdrawn, asked}
-use Rattle.plans.specs.Words.{wordsMax}
+use Rattle.plans.specs.Calls.{beforeReading}
 use Rattle.admissions.specs.Admission.{Admission, admission}
 use Rattle.admissions.specs.Inner.NoBoard.{noBoard}
 use Rattle.boards.proofs.Keeping.{refusal-kept}
@@ -40,10 +40,10 @@ unsoundAnswer = refused (refusal unsoundBoard 0)
 abbrev untouched : List ℕ → List Row → Answer → Admission
 untouched words rows a = record { change = unchanged rows a; words = words }
 
--- a choice between two answers, inside or outside of what they are put into
-through : {A B : Type 0} (f : A → B) (t : Bool) (a b : A) → pick t (f a) (f b) ≡ f (pick t a b)
-through f true a b = refl
-through f false a b = refl
+-- a refusal or an answer, inside or outside of what they are put into
+through : {A : Type 0} (f : Answer → A) (a : Answer) (o : Outcome) → onOutcome (λ r. f (refused r)) (f a) o ≡ f (onOutcome refused a o)
+through f a Accepted = refl
+through f a (Refused r) = refl
 
 -- what the rules decide then
 withdrawn-none : (rows : List Row) (id : ℕ) → NoBoard rows → withdrawn rows id ≡ unchanged rows unsoundAnswer
@@ -54,9 +54,9 @@ asked-none : (rows : List Row) (cores : ℕ) → NoBoard rows → asked rows cor
 unfolding asked
 asked-none rows cores none = simp (unsound rows none)
 
-admission-none : (bytes words : List ℕ) (rows : List Row) → NoBoard rows → admission bytes words rows ≡ untouched words rows (noBoard (length words))
+admission-none : (bytes words : List ℕ) (rows : List Row) (cost : ℕ) → NoBoard rows → admission bytes words rows cost ≡ untouched words rows (noBoard (length words) cost)
 unfolding admission
-admission-none bytes words rows none = simp (unsound rows none) (through (untouched words rows) (ltb (length words) wordsMax) (refused (refusal fewWords 0)) unsoundAnswer)
+admission-none bytes words rows cost none = simp (unsound rows none) (through (untouched words rows) unsoundAnswer (beforeReading (length words) cost))
 
 -- and what the calls leave: the rows as they were, and the words
 abbrev after : {Lent : Type 0} → Answer → Lent → After Lent
@@ -69,9 +69,9 @@ withdraw-none rows id none =
 pub ask-none : (rows : List Row) (cores : ℕ) → NoBoard rows → AskAllows rows cores (after unsoundAnswer rows)
 ask-none rows cores none = sym (ap (λ (a : Answer). after a rows) (asked-none rows cores none))
 
-pub admit-none : (bytes words : List ℕ) (rows : List Row) → NoBoard rows → AdmitAllows bytes words rows (after (noBoard (length words)) (record { words = words; rows = rows }))
-admit-none bytes words rows none =
-    sym (ap (λ (a : Admission). after (a .change .answer) (lent (a .words) (changed rows (a .change)))) (admission-none bytes words rows none) ∙ ap (λ (rs : List Row). after (noBoard (length words)) (lent words rs)) (refusal-kept rows (noBoard (length words))))
+pub admit-none : (bytes words : List ℕ) (rows : List Row) (cost : ℕ) → NoBoard rows → AdmitAllows bytes words rows cost (after (noBoard (length words) cost) (record { words = words; rows = rows }))
+admit-none bytes words rows cost none =
+    sym (ap (λ (a : Admission). after (a .change .answer) (lent (a .words) (changed rows (a .change)))) (admission-none bytes words rows cost none) ∙ ap (λ (rs : List Row). after (noBoard (length words) cost) (lent words rs)) (refusal-kept rows (noBoard (length words) cost)))
   where
     lent : List ℕ → List Row → Lent
     lent ws rs = record { words = ws; rows = rs }

@@ -8,12 +8,12 @@ use Rattle.plans.specs.Calls.{planCall}
 use Rattle.planner.specs.Calls.{Lent, admitCall, withdrawCall, askCall}
 
 -- planning: its answer, and the words after it
-abbrev pub PlanAllows : (bytes words : List ℕ) → After (List ℕ) → Type 0
-PlanAllows bytes words after = after ≡ planCall bytes words
+abbrev pub PlanAllows : (bytes words : List ℕ) (cost : ℕ) → After (List ℕ) → Type 0
+PlanAllows bytes words cost after = after ≡ planCall bytes words cost
 
 -- admitting: its answer, and the words and the rows after it
-abbrev pub AdmitAllows : (bytes words : List ℕ) (rows : List Row) → After Lent → Type 0
-AdmitAllows bytes words rows after = after ≡ admitCall bytes words rows
+abbrev pub AdmitAllows : (bytes words : List ℕ) (rows : List Row) (cost : ℕ) → After Lent → Type 0
+AdmitAllows bytes words rows cost after = after ≡ admitCall bytes words rows cost
 
 -- withdrawing: its answer, and the rows after it
 abbrev pub WithdrawAllows : (rows : List Row) (id : ℕ) → After (List Row) → Type 0

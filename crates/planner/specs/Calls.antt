@@ -13,9 +13,9 @@ pub record Lent : Type 0 where
   pub rows : List Row
 
 -- "admitting writes the same plan words and returns the number (0..15) of the row it filled"
-abbrev pub admitCall : List ℕ → List ℕ → List Row → After Lent
-admitCall bytes words rows =
-    let a : Admission = admission bytes words rows in
+abbrev pub admitCall : List ℕ → List ℕ → List Row → (cost : ℕ) → After Lent
+admitCall bytes words rows cost =
+    let a : Admission = admission bytes words rows cost in
     record { answer = a .change .answer; lent = record { words = a .words; rows = changed rows (a .change) } }
 
 -- "withdrawing returns the number of the row it freed"

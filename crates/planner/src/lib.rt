@@ -35,23 +35,28 @@ fn apply(board: &mut [Row], change: Change) -> Answer
     change.answer
 }
 
-// Plans the task of a record into the words; the value is the number of words.
+// Plans the task of a record, each step with the cost, into the words; the value is the number of words.
 #[no_mangle]
-pub extern "C" fn planner_plan(bytes: &[u8], words: &mut [u64]) -> Answer
-    ensures { λ r. ⌜ PlanAllows (now (bytes .entry)) (now (words .entry)) (record { answer = r; lent = now (words .exit) }) ⌝ }
+pub extern "C" fn planner_plan(bytes: &[u8], words: &mut [u64], cost: u64) -> Answer
+    ensures { λ r. ⌜ PlanAllows (now (bytes .entry)) (now (words .entry)) cost (record { answer = r; lent = now (words .exit) }) ⌝ }
 {
-    plans::plan(bytes, words)
+    plans::plan(bytes, words, cost)
 }
 
-// Reads a record, plans its task into the words and puts it on the board; the value is the row filled.
+// Reads a record, plans its task, each step with the cost, into the words and puts it on the board; the value is the row filled.
 #[no_mangle]
-pub extern "C" fn planner_admit(bytes: &[u8], words: &mut [u64], board: &mut [Row]) -> Answer
-    ensures { λ r. ⌜ AdmitAllows (now (bytes .entry)) (now (words .entry)) (now (board .entry)) (record { answer = r; lent = record { words = now (words .exit); rows = now (board .exit) } }) ⌝ }
+pub extern "C" fn planner_admit(
+    bytes: &[u8],
+    words: &mut [u64],
+    board: &mut [Row],
+    cost: u64,
+) -> Answer
+    ensures { λ r. ⌜ AdmitAllows (now (bytes .entry)) (now (words .entry)) (now (board .entry)) cost (record { answer = r; lent = record { words = now (words .exit); rows = now (board .exit) } }) ⌝ }
 {
     if board.len() != ROWS {
-        return admissions::no_board(words.len());
+        return admissions::no_board(words.len(), cost);
     }
-    let change = admissions::admission(bytes, words, rows_of(board));
+    let change = admissions::admission(bytes, words, rows_of(board), cost);
     apply(board, change)
 }
 

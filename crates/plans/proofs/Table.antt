@@ -2,12 +2,19 @@
 -- to the path, their threads times lengths to the work, none is empty or idle, and there is one, because some node runs.
 use mathlib.Core.Path.{_≡_, refl, sym, _∙_}
 use mathlib.Core.Bool.{false}
-use Prim.Native.Nat.{ℕ, _<_}
+use mathlib.Core.List.{List}
+use Prim.Native.Nat.{ℕ, _≤_, _<_}
 use native.Mathlib.Omega.{arith}
 use Rattle.plain.specs.At.{at}
+use Rattle.refusals.specs.declared.Outcome.the-variants.{Accepted as Read}
 use Rattle.tables.specs.declared.TaskTable.{TaskTable}
+use Rattle.tables.specs.Limits.{costMax}
+use Rattle.tables.specs.Cost.{costed}
 use Rattle.tables.specs.Inner.Plannable.{Plannable}
-use Rattle.tables.proofs.Plannable.{plannable}
+use Rattle.tables.proofs.Cost.{costed-range, plannable}
+use Rattle.records.specs.declared.Reading.{Reading}
+use Rattle.records.specs.Reading.{readingOf}
+use Rattle.records.proofs.Answers.{accepted-table}
 use Rattle.ways.specs.Reaches.{Reaches}
 use Rattle.ways.specs.Inner.Tidy.{Tidy}
 use Rattle.ways.specs.Closure.{loops}
@@ -70,6 +77,10 @@ module _ {t : TaskTable} (ok : Planned t) where
     within = ok .fits;
     some = segment-some;
   }
+
+-- a table that was read can be planned with any cost in range
+pub read-plannable : (bytes : List ℕ) {r : Reading} {cost : ℕ} → r ≡ readingOf bytes → readingOf bytes .outcome ≡ Read → cost ≤ costMax → Plannable (costed (r .table) cost)
+read-plannable bytes is read allowed = rw is (plannable (costed-range (accepted-table bytes read) allowed))
 
 -- every accepted table has a plan
 pub plans-accepted : {t : TaskTable} → Accepted t → Planned t

@@ -8,20 +8,23 @@ use borrow.Author.Tests.{lt-ltb, le-ltb, ltb-false, eq-eqb, ne-eqb}
 use lib.Dec.{ltb}
 use lib.ListN.{length}
 use Rattle.plain.specs.Pick.{pick}
-use Rattle.refusals.specs.Numbers.{longPath, fewWords}
+use Rattle.refusals.specs.Numbers.{longPath}
 use Rattle.refusals.specs.declared.Refusal.{Refusal}
 use Rattle.refusals.specs.declared.Answer.{Answer}
 use Rattle.refusals.specs.declared.Outcome.{Outcome}
 use Rattle.refusals.specs.declared.Outcome.the-variants.{Accepted, Refused}
 use Rattle.refusals.specs.Refusal.{refusal}
 use Rattle.tables.specs.declared.TaskTable.{TaskTable}
+use Rattle.tables.specs.Limits.{costMax}
 use Rattle.records.specs.Reading.{readingOf}
 use Rattle.ways.specs.Closure.{loops}
 use Rattle.plans.specs.Diagram.{path}
 use Rattle.plans.specs.Words.{wordsMax}
-use Rattle.plans.specs.Calls.{loopIn, onTable, taskOf, onTask, unplanned, planned, planCall}
+use Rattle.plans.specs.Calls.{beforeReading, loopIn, onTable, taskOf, onTask, unplanned, planned, planCall}
 use Rattle.plans.specs.Inner.Drawn.{outcomeOf, tested}
 use Rattle.plans.specs.Inner.Table.{unlessLater, tablePlan}
+use Rattle.plans.proofs.Cases.{Before, before}
+use Rattle.plans.proofs.Cases.Before.{dear, few, reads}
 
 -- an outcome is not a refusal and an acceptance at once
 pub not-both : {o : Outcome} {r : Refusal} → o ≡ Refused r → o ≡ Accepted → ⊥
@@ -63,24 +66,33 @@ module _ {A : Type 0} (refuse : Refusal → A) (go : TaskTable → A) (t : TaskT
       by false false e = refl
 
 -- a record, by the outcome of its reading
-module _ {A : Type 0} (refuse : Refusal → A) (go : TaskTable → A) (bytes : List ℕ) where
-  pub task-refused : {r : Refusal} → readingOf bytes .outcome ≡ Refused r → onTask refuse go bytes ≡ refuse r
+module _ {A : Type 0} (refuse : Refusal → A) (go : TaskTable → A) (bytes : List ℕ) (cost : ℕ) where
+  pub task-refused : {r : Refusal} → readingOf bytes .outcome ≡ Refused r → onTask refuse go bytes cost ≡ refuse r
   unfolding onTask
   task-refused e = rw e
 
-  pub task-read : readingOf bytes .outcome ≡ Accepted → onTask refuse go bytes ≡ onTable refuse go (taskOf bytes)
+  pub task-read : readingOf bytes .outcome ≡ Accepted → onTask refuse go bytes cost ≡ onTable refuse go (taskOf bytes cost)
   unfolding onTask
   task-read e = rw e
 
--- the words lent to a plan
-module _ (bytes words : List ℕ) where
-  pub few : length words < wordsMax → planCall bytes words ≡ unplanned words (refusal fewWords 0)
+-- planning, by the outcome of the rules before the record's
+module _ (bytes words : List ℕ) (cost : ℕ) where
+  pub plan-refused : {r : Refusal} → beforeReading (length words) cost ≡ Refused r → planCall bytes words cost ≡ unplanned words r
   unfolding planCall
-  few h = rw (lt-ltb (length words) wordsMax h)
+  plan-refused e = rw e
 
-  pub enough : wordsMax ≤ length words → planCall bytes words ≡ onTask (unplanned words) (planned words) bytes
+  pub plan-read : beforeReading (length words) cost ≡ Accepted → planCall bytes words cost ≡ onTask (unplanned words) (planned words) bytes cost
   unfolding planCall
-  enough h = rw (le-ltb (length words) wordsMax h)
+  plan-read e = rw e
+
+-- where these refuse nothing, the cost is in range and the words are enough
+pub ready : (words cost : ℕ) → beforeReading words cost ≡ Accepted → (cost ≤ costMax) × (wordsMax ≤ words)
+ready words cost = by (before words cost)
+  where
+    by : {o : Outcome} → Before words cost o → o ≡ Accepted → (cost ≤ costMax) × (wordsMax ≤ words)
+    by (dear h) e = absurd (not-both refl e)
+    by (few c h) e = absurd (not-both refl e)
+    by (reads c w) e = (c, w)
 
 -- a plan that a later rule refuses, and one that none does
 module _ (later : Answer) (words : List ℕ) (t : TaskTable) where

@@ -9,18 +9,32 @@ ghost use mathlib.Core.List.{_++_};
 ghost use Prim.Native.Nat.{_+_, _*_, _≤_};
 ghost use lib.Dec.{ltb};
 ghost use lib.ListN.{length, drop};
+ghost use Rattle.tables.specs.Cost.{costed};
 ghost use Rattle.tables.specs.Inner.Plannable.{Plannable};
 ghost use Rattle.ways.specs.Inner.Tidy.{Tidy};
 ghost use Rattle.ways.specs.Closure.{loops};
 ghost use Rattle.rings.specs.Ring.{loopOf};
 ghost use Rattle.plans.specs.Diagram.{segmentCount};
 ghost use Rattle.plans.specs.Words.{wordCount, wordsMax, frontWords, written};
-ghost use Rattle.plans.specs.Calls.{planCall};
+ghost use Rattle.plans.specs.Calls.{beforeReading, planCall};
 ghost use Rattle.plans.specs.Inner.Drawn.{tested, SegmentsOf, NodesOf, Totalled};
 ghost use Rattle.plans.specs.Inner.Table.{tablePlan};
 
 // The limit of specs/: the most words that a plan has.
 pub const WORDS_MAX: usize = 387;
+
+// Whether a record is to be read at all: 26 where the cost is too high, 16 where too few words are lent.
+pub fn before_reading(words: usize, cost: u64) -> Outcome
+    ensures { λ r. ⌜ r ≡ beforeReading words cost ⌝ }
+{
+    if TaskTable::COST_MAX < cost {
+        return Outcome::Refused(Refusal::of(Refusal::HIGH_COST, 0));
+    }
+    if words < WORDS_MAX {
+        return Outcome::Refused(Refusal::of(Refusal::FEW_WORDS, 0));
+    }
+    Outcome::Accepted
+}
 
 // The answer of the rules after the reader's: 10 with its loop where nodes were left when the diagram was run, 11 where its path is longer than
 // the period, else what the later rules say.
@@ -87,17 +101,19 @@ pub struct Planning {
     pub path: u64,
 }
 
-// The plan of a table: 10, 11, then the answer of the caller's later rules, as 12 and 13 of an admission, and only then are words written.
+// The plan of a table with a cost: 10, 11, then the answer of the caller's later rules, as 12 and 13 of an admission, and only then are words written.
 // A caller that has none gives Answer::accepted(0).
-pub fn plan_table(words: &mut [u64], table: TaskTable, later: Answer) -> Planning
-    requires { ⌜ Plannable table × (wordsMax ≤ length (now words)) ⌝ }
-    ensures { λ r. ⌜ record { answer = r .answer; lent = now (words .exit) } ≡ tablePlan later (now (words .entry)) table ⌝ }
-    ensures { λ r. ⌜ (r .answer .refusal ≡ 0 → Totalled table r) ⌝ }
+pub fn plan_table(words: &mut [u64], table: TaskTable, cost: u64, later: Answer) -> Planning
+    requires { ⌜ Plannable (costed table cost) × (wordsMax ≤ length (now words)) ⌝ }
+    ensures { λ r. ⌜ record { answer = r .answer; lent = now (words .exit) } ≡ tablePlan later (now (words .entry)) (costed table cost) ⌝ }
+    ensures { λ r. ⌜ (r .answer .refusal ≡ 0 → Totalled (costed table cost) r) ⌝ }
 {
     let n = table.count;
     let period = table.period;
     let parents = table.parents;
-    let execution = table.execution;
+    let written = table.execution;
+    let mut execution = written;
+    tables::add_cost(&mut execution, n, cost);
     let mut threads = [0u8; 64];
     let mut enders = [0u8; 64];
     let mut finishes = [0u64; 64];
@@ -115,12 +131,9 @@ pub fn plan_table(words: &mut [u64], table: TaskTable, later: Answer) -> Plannin
     );
     let path = swept.cut.time;
     let answer = tested(&parents, swept, n, period, later);
+    let work = 0;
     if answer.refusal != 0 {
-        return Planning {
-            answer,
-            work: 0,
-            path,
-        };
+        return Planning { answer, work, path };
     }
     let work = ways::work_of(&execution, n);
     write_segments(words, &threads, &enders, &finishes, swept, n, period, work);
@@ -129,18 +142,19 @@ pub fn plan_table(words: &mut [u64], table: TaskTable, later: Answer) -> Plannin
     Planning { answer, work, path }
 }
 
-// Plans the task of a record into the words; the answer's value is the number of words.
-pub fn plan(bytes: &[u8], words: &mut [u64]) -> Answer
-    ensures { λ r. ⌜ record { answer = r; lent = now (words .exit) } ≡ planCall (now (bytes .entry)) (now (words .entry)) ⌝ }
+// Plans the task of a record, each step with the cost, into the words; the answer's value is the number of words.
+pub fn plan(bytes: &[u8], words: &mut [u64], cost: u64) -> Answer
+    ensures { λ r. ⌜ record { answer = r; lent = now (words .exit) } ≡ planCall (now (bytes .entry)) (now (words .entry)) cost ⌝ }
 {
-    if words.len() < WORDS_MAX {
-        return Answer::refused(Refusal::of(Refusal::FEW_WORDS, 0));
-    }
+    let first = before_reading(words.len(), cost);
+    let Outcome::Accepted = first else {
+        return refusals::answer_of(first);
+    };
     let reading = records::read_record(bytes);
     let outcome = reading.outcome;
     let Outcome::Accepted = outcome else {
         return refusals::answer_of(outcome);
     };
-    let planning = plan_table(words, reading.table, Answer::accepted(0));
+    let planning = plan_table(words, reading.table, cost, Answer::accepted(0));
     planning.answer
 }

@@ -76,3 +76,7 @@ notShortest = 18
 -- all executions are 0
 abbrev pub noneRuns : ℕ
 noneRuns = 21
+
+-- cost above 255
+abbrev pub highCost : ℕ
+highCost = 26

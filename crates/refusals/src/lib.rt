@@ -2,7 +2,7 @@
 ghost use mathlib.Core.Path.{_≡_};
 ghost use Rattle.refusals.specs.Refusal.{refusal, looped, refusalOf};
 ghost use Rattle.refusals.specs.Answer.{accepted, refused, answerOf};
-ghost use Rattle.refusals.specs.Numbers.{ended, tooLong, badEdition, badId, badPeriod, badCount, badExecution, badParent, bytesFollow, loop, longPath, idStands, boardFull, notStanding, badCores, fewWords, unsoundBoard, notShortest, noneRuns};
+ghost use Rattle.refusals.specs.Numbers.{ended, tooLong, badEdition, badId, badPeriod, badCount, badExecution, badParent, bytesFollow, loop, longPath, idStands, boardFull, notStanding, badCores, fewWords, unsoundBoard, notShortest, noneRuns, highCost};
 
 // A number of the table; a place: a byte of the input, for 10 a node, else 0; for 10 the nodes of a loop, else none.
 pub struct Refusal {
@@ -49,6 +49,8 @@ impl Refusal {
     pub const NOT_SHORTEST: u64 = 18;
 
     pub const NONE_RUNS: u64 = 21;
+
+    pub const HIGH_COST: u64 = 26;
 
     pub fn of(number: u64, place: usize) -> Self
         ensures { λ r. ⌜ r ≡ refusal number place ⌝ }
@@ -154,4 +156,5 @@ pub fn constants_named()
     ensures { λ _. do ⌜ (← ⟦Refusal::UNSOUND_BOARD⟧ .entry) ≡ unsoundBoard ⌝ }
     ensures { λ _. do ⌜ (← ⟦Refusal::NOT_SHORTEST⟧ .entry) ≡ notShortest ⌝ }
     ensures { λ _. do ⌜ (← ⟦Refusal::NONE_RUNS⟧ .entry) ≡ noneRuns ⌝ }
+    ensures { λ _. do ⌜ (← ⟦Refusal::HIGH_COST⟧ .entry) ≡ highCost ⌝ }
 {}

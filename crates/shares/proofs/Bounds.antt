@@ -6,8 +6,7 @@ use native.Mathlib.Nat.{mul-le-mul}
 use native.Mathlib.Omega.{arith}
 use Rattle.plain.specs.Sums.{sumTo}
 use Rattle.plain.proofs.Sums.{sum-under}
-use Rattle.tables.specs.Limits.{periodMax, countMax, million}
-use Rattle.tables.specs.Inner.Limits.{workMax, overMax}
+use Rattle.tables.specs.Limits.{periodMax, countMax, workMax, overMax, million}
 use Rattle.shares.specs.declared.Deal.{Deal}
 use Rattle.shares.specs.Deal.{deal}
 use Rattle.shares.specs.Inner.Words.{threadsAt, lengthAt}

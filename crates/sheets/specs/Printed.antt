@@ -21,9 +21,13 @@ headOf t = record { id = t .id; period = t .period; work = work t; path = path t
 abbrev pub tableSheet : TaskTable → List ℕ
 tableSheet t = sheetText (headOf t) (written t (replicate wordsMax 0))
 
+-- "the programs use 0"
+abbrev pub sheetCost : ℕ
+sheetCost = 0
+
 -- the sheet of a record: the reader's refusals as met, 10, 11, else the plan
 abbrev pub sheetOf : List ℕ → List ℕ
-sheetOf bytes = onTask refusedLine tableSheet bytes
+sheetOf bytes = onTask refusedLine tableSheet bytes sheetCost
 
 -- what the writer leaves: how many bytes it wrote, and the lent buffer
 pub record Printed : Type 0 where

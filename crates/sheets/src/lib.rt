@@ -10,12 +10,13 @@ use tables::TaskTable;
 ghost use mathlib.Core.Path.{_≡_};
 ghost use Prim.Native.Nat.{_≤_};
 ghost use lib.ListN.{length};
+ghost use Rattle.tables.specs.Cost.{costed};
 ghost use Rattle.tables.specs.Inner.Plannable.{Plannable};
 ghost use Rattle.plans.specs.Calls.{onTable};
 ghost use Rattle.texts.specs.Inner.Wrote.{Wrote};
 ghost use Rattle.sheets.specs.Lines.{refusedLine};
 ghost use Rattle.sheets.specs.Sheet.{sheetText, sheetMax};
-ghost use Rattle.sheets.specs.Printed.{tableSheet, sheetOf, printed};
+ghost use Rattle.sheets.specs.Printed.{tableSheet, sheetCost, sheetOf, printed};
 ghost use Rattle.sheets.specs.Inner.Printable.{Printable};
 
 // The limit of specs/: so many bytes hold every sheet.
@@ -53,13 +54,13 @@ pub fn put_refusal(out: &mut [u8], refusal: Refusal) -> usize
     )
 }
 
-// The sheet of a table that was read.
+// The sheet of a table that was read, without a cost.
 fn put_table(out: &mut [u8], table: TaskTable) -> usize
-    requires { ⌜ (sheetMax ≤ length (now out)) × Plannable table ⌝ }
-    ensures { λ r. ⌜ Wrote 0 (onTable refusedLine tableSheet table) (now (out .entry)) (now (out .exit)) r ⌝ }
+    requires { ⌜ (sheetMax ≤ length (now out)) × Plannable (costed table sheetCost) ⌝ }
+    ensures { λ r. ⌜ Wrote 0 (onTable refusedLine tableSheet (costed table sheetCost)) (now (out .entry)) (now (out .exit)) r ⌝ }
 {
     let mut words = [0u64; plans::WORDS_MAX];
-    let planning = plans::plan_table(&mut words, table, Answer::accepted(0));
+    let planning = plans::plan_table(&mut words, table, 0, Answer::accepted(0));
     let answer = planning.answer;
     if answer.refusal != 0 {
         return put_refusal(out, Refusal::told_by(answer));

@@ -1,2 +1,2 @@
-pub mod Plannable
+pub mod Cost
 pub mod Runs

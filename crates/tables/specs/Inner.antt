@@ -1,2 +1,1 @@
 pub mod Plannable
-pub mod Limits

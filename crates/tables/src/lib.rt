@@ -1,9 +1,12 @@
 // The table of one task: what a record says, by value.
 ghost use mathlib.Core.Path.{_≡_};
-ghost use Prim.Native.Nat.{_≤_};
-ghost use Rattle.tables.specs.Limits.{editionMax, idMax, periodMax, countMax, executionMax, leastExecution, million};
+ghost use mathlib.Core.List.{map};
+ghost use Prim.Native.Nat.{ℕ, _≤_};
+ghost use Rattle.plain.specs.At.{at};
+ghost use Rattle.tables.specs.Limits.{editionMax, idMax, periodMax, countMax, executionMax, leastExecution, costMax, runMax, million};
 ghost use Rattle.tables.specs.Table.{emptyTable};
 ghost use Rattle.tables.specs.Runs.{allZero};
+ghost use Rattle.tables.specs.Cost.{withCost};
 
 // A parent set is one word: bit p of parents[v] is set where v waits for p.
 pub struct TaskTable {
@@ -28,6 +31,8 @@ impl TaskTable {
     pub const COUNT_MAX: u64 = 64;
 
     pub const EXECUTION_MAX: u64 = 65535;
+
+    pub const COST_MAX: u64 = 255;
 
     pub fn empty() -> Self
         ensures { λ r. ⌜ r ≡ emptyTable ⌝ }
@@ -68,6 +73,29 @@ pub fn all_zero(executions: &[u64; 64], n: usize) -> bool
     true
 }
 
+// A node's execution, with the cost of its dispatch; a join pays nothing.
+fn with_cost(written: u64, cost: u64) -> u64
+    requires { ⌜ withCost cost written ≤ runMax ⌝ }
+    ensures { λ r. ⌜ r ≡ withCost cost written ⌝ }
+{
+    if written == 0 {
+        return 0;
+    }
+    written + cost
+}
+
+// The executions of n nodes, each with the cost; past them stands 0, which stays.
+pub fn add_cost(executions: &mut [u64; 64], n: usize, cost: u64)
+    requires { ⌜ (n ≤ countMax) × ((v : ℕ) → withCost cost (at (now executions) v) ≤ runMax) × ((v : ℕ) → n ≤ v → at (now executions) v ≡ 0) ⌝ }
+    ensures { λ _. ⌜ now (executions .exit) ≡ map (withCost cost) (now (executions .entry)) ⌝ }
+{
+    let mut v: usize = 0;
+    while v < n {
+        executions[v] = with_cost(executions[v], cost);
+        v += 1;
+    }
+}
+
 // Each constant is the limit that specs/ gives the name.
 pub fn limits_named()
     ensures { λ _. do ⌜ (← ⟦TaskTable::EDITION_MAX⟧ .entry) ≡ editionMax ⌝ }
@@ -75,5 +103,6 @@ pub fn limits_named()
     ensures { λ _. do ⌜ (← ⟦TaskTable::PERIOD_MAX⟧ .entry) ≡ periodMax ⌝ }
     ensures { λ _. do ⌜ (← ⟦TaskTable::COUNT_MAX⟧ .entry) ≡ countMax ⌝ }
     ensures { λ _. do ⌜ (← ⟦TaskTable::EXECUTION_MAX⟧ .entry) ≡ executionMax ⌝ }
+    ensures { λ _. do ⌜ (← ⟦TaskTable::COST_MAX⟧ .entry) ≡ costMax ⌝ }
     ensures { λ _. do ⌜ (← ⟦MILLION⟧ .entry) ≡ million ⌝ }
 {}

@@ -1,4 +1,5 @@
-// Runs the tables of document 01 that are not proved, and the records on which a tired planner's slips would show; prints a line for each.
+// Runs the tables of document 01 that are not proved, tables with a cost, and the records on which a tired planner's slips would show; prints a
+// line for each.
 use boards::Board;
 use libc::STDOUT_FILENO;
 
@@ -27,10 +28,10 @@ fn begins_with(words: &[u64], expected: &[u64]) -> bool {
     true
 }
 
-// A record whose plan is the expected words, and no word more.
-fn planned(name: &[u8], record: &[u8], expected: &[u64]) {
+// A record whose plan with a cost is the expected words, and no word more.
+fn planned_with_cost(name: &[u8], record: &[u8], cost: u64, expected: &[u64]) {
     let mut words = [0u64; plans::WORDS_MAX];
-    let answer = plans::plan(record, &mut words);
+    let answer = plans::plan(record, &mut words, cost);
     if answer.refusal != 0 {
         say(name, false);
         return;
@@ -42,30 +43,40 @@ fn planned(name: &[u8], record: &[u8], expected: &[u64]) {
     say(name, begins_with(&words, expected));
 }
 
-// A record that is refused by this number at this place, with no set of nodes beside it.
-fn refused(name: &[u8], record: &[u8], number: u64, place: u64) {
+// The same without a cost.
+fn planned(name: &[u8], record: &[u8], expected: &[u64]) {
+    planned_with_cost(name, record, 0, expected);
+}
+
+// A record that with a cost is refused by this number at this place, with no set of nodes beside it.
+fn refused_with_cost(name: &[u8], record: &[u8], cost: u64, number: u64, place: u64) {
     let mut words = [0u64; plans::WORDS_MAX];
-    let answer = plans::plan(record, &mut words);
+    let answer = plans::plan(record, &mut words, cost);
     say(
         name,
         answer.refusal == number && answer.place == place && answer.ring == 0,
     );
 }
 
+// The same without a cost.
+fn refused(name: &[u8], record: &[u8], number: u64, place: u64) {
+    refused_with_cost(name, record, 0, number, place);
+}
+
 // A record that is refused by 10, with this node named and this set of nodes beside it.
 fn round(name: &[u8], record: &[u8], node: u64, ring: u64) {
     let mut words = [0u64; plans::WORDS_MAX];
-    let answer = plans::plan(record, &mut words);
+    let answer = plans::plan(record, &mut words, 0);
     say(
         name,
         answer.refusal == 10 && answer.place == node && answer.ring == ring,
     );
 }
 
-// The verdict for a board that holds this record's task alone.
-fn alone(name: &[u8], record: &[u8], cores: u64, yes: u64) {
+// The verdict for a board that holds this record's task alone, admitted with a cost.
+fn alone(name: &[u8], record: &[u8], cost: u64, cores: u64, yes: u64) {
     let mut words = [0u64; plans::WORDS_MAX];
-    let change = admissions::admission(record, &mut words, Board::empty());
+    let change = admissions::admission(record, &mut words, Board::empty(), cost);
     let board = boards::with_row(Board::empty(), change.at, change.row);
     let answer = boards::asked(board, cores);
     say(name, answer.refusal == 0 && answer.value == yes);
@@ -186,6 +197,50 @@ const JOINED: [u64; 24] = [
     700000,
 ];
 
+const FIVE_AND_FIVE: [u64; 9] = [10, 1, 1, 1, 10, 100, 0, 100, 1000000];
+
+const JOIN_PAYS_NOTHING: [u64; 18] = [
+    5,
+    2,
+    3,
+    1,
+    3,
+    30,
+    1,
+    2,
+    20,
+    0,
+    30,
+    500000,
+    30,
+    0,
+    0,
+    30,
+    20,
+    500000,
+];
+
+const PARENTS_PAY_FOR_THEMSELVES: [u64; 18] = [
+    9,
+    2,
+    3,
+    2,
+    3,
+    60,
+    1,
+    3,
+    30,
+    0,
+    60,
+    450000,
+    0,
+    60,
+    450000,
+    60,
+    30,
+    900000,
+];
+
 // The tables that are not starred, and the two numbers written out.
 fn tables() {
     planned(
@@ -257,18 +312,68 @@ fn join_slips() {
     );
 }
 
+// The slips of a cost, which each step pays once.
+fn cost_slips() {
+    planned_with_cost(
+        b"5 written and a cost of 5 fill a period of 10",
+        b"\x01\x07\x0a\x01\x05\x00",
+        5,
+        &FIVE_AND_FIVE,
+    );
+    refused_with_cost(
+        b"a cost of 6 does not fit it",
+        b"\x01\x07\x0a\x01\x05\x00",
+        6,
+        11,
+        0,
+    );
+    planned_with_cost(
+        b"a join pays nothing",
+        b"\x02\x07\x0a\x03\x02\x00\x00\x01\x00\x01\x01\x01",
+        1,
+        &JOIN_PAYS_NOTHING,
+    );
+    planned_with_cost(
+        b"a step with two parents pays once",
+        b"\x01\x07\x0a\x03\x01\x00\x01\x00\x01\x02\x00\x01",
+        2,
+        &PARENTS_PAY_FOR_THEMSELVES,
+    );
+    refused_with_cost(b"a cost of 256: 26 before 1", b"", 256, 26, 0);
+}
+
+// The listing's verdict, which is yes on 2 cores without a cost.
+fn cost_verdicts() {
+    alone(
+        b"the listing with a cost of 1: no on 4 cores",
+        b"\x01\x03\x06\x03\x03\x00\x01\x00\x01\x01\x01",
+        1,
+        4,
+        0,
+    );
+    alone(
+        b"and yes on 5",
+        b"\x01\x03\x06\x03\x03\x00\x01\x00\x01\x01\x01",
+        1,
+        5,
+        1,
+    );
+}
+
 // The slips of a board, of a reader, and of a loop.
 fn other_slips() {
     not_withdrawn(b"id 0 finds no free row to withdraw", 0);
     alone(
         b"densities are rounded up: no on 1 core",
         b"\x01\x06\x03\x03\x01\x00\x01\x00\x01\x00",
+        0,
         1,
         0,
     );
     alone(
         b"and yes on 2",
         b"\x01\x06\x03\x03\x01\x00\x01\x00\x01\x00",
+        0,
         2,
         1,
     );
@@ -290,5 +395,7 @@ fn main() {
     tables();
     plan_slips();
     join_slips();
+    cost_slips();
+    cost_verdicts();
     other_slips();
 }

@@ -12,12 +12,15 @@ pub struct Aligned<T>(pub T);
 /// A shape's name and the parents of its nodes.
 pub type Shape = (&'static str, fn(u64) -> Vec<Vec<u64>>);
 
+pub const CHAIN: Shape = ("chain", chain);
+pub const LOOSE: Shape = ("loose", loose);
+
 pub const SHAPES: [Shape; 5] = [
-    ("chain", chain),
+    CHAIN,
     ("backward chain", backward),
     ("fork", fork),
     ("dense", dense),
-    ("loose", loose),
+    LOOSE,
 ];
 
 /// Not to be planned: each node waits for the one before, node 0 for the last.
@@ -44,7 +47,7 @@ pub fn record(shape: Shape, count: u64, id: u64) -> Vec<u8> {
 /// A chain in edition 2, every other node a join: each finish wakes a join,
 /// and this the next step.
 pub fn half_joins(count: u64, id: u64) -> Vec<u8> {
-    let task = numbered(("chain", chain), count, id);
+    let task = numbered(CHAIN, count, id);
     task.half_joins(1).record()
 }
 
@@ -64,6 +67,9 @@ fn task(parents: Vec<Vec<u64>>, executions: impl Iterator<Item = u64>, id: u64) 
         nodes: parents.into_iter().zip(executions).map(node).collect(),
     }
 }
+
+/// The largest cost; no path gets too long by it.
+pub const COST: u64 = 255;
 
 /// So many records stand for a case in which no branch can be learnt.
 pub const DIFFERENT: usize = 512;

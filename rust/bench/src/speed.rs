@@ -2,7 +2,8 @@
 
 use crate::clock::pair;
 use crate::setup::{
-    board, different, half_joins, record, scattered, Aligned, DIFFERENT, RING, SHAPES,
+    board, different, half_joins, record, scattered, Aligned, CHAIN, COST, DIFFERENT, LOOSE, RING,
+    SHAPES,
 };
 use ffi::task::Task;
 use reference::{Row, PLAN_WORDS};
@@ -15,9 +16,11 @@ pub fn print() {
     println!("words and boards start on a cache line");
     println!("board: copied afresh before each admit and withdraw; the {copy:.1} for");
     println!("the copy are already taken off");
+    println!("the cost is 0 where none is named");
     println!("{:42}{:>9}{:>11}{:>7}", "", "library", "reference", "ratio");
     plans();
     different_plans();
+    dear_plans();
     admissions(copy);
     withdrawal(copy);
     asking();
@@ -32,40 +35,51 @@ fn plans() {
     for shape in SHAPES {
         for count in [8, 16, 32, 64] {
             let name = format!("plan {} of {count}", shape.0);
-            line(&name, plan_times(&[record(shape, count, 1)]));
+            line(&name, plan_times(&[record(shape, count, 1)], 0));
         }
     }
     for count in [8, 16, 32, 64] {
         let name = format!("plan chain of {count}, half of it joins");
-        line(&name, plan_times(&[half_joins(count, 1)]));
+        line(&name, plan_times(&[half_joins(count, 1)], 0));
     }
     let longest = Task::longest().record();
     let name = format!("read {} bytes, then refusal 10", longest.len());
-    line(&name, plan_times(&[longest]));
+    line(&name, plan_times(&[longest], 0));
     let name = format!("read {} of 64, then refusal 10", RING.0);
-    line(&name, plan_times(&[record(RING, 64, 1)]));
+    line(&name, plan_times(&[record(RING, 64, 1)], 0));
 }
 
 fn different_plans() {
     for shape in SHAPES {
         let name = format!("plan {DIFFERENT} different, {} of 64", shape.0);
-        line(&name, plan_times(&different(shape)));
+        line(&name, plan_times(&different(shape), 0));
     }
     let name = format!("plan {DIFFERENT} different, scattered 64");
-    line(&name, plan_times(&scattered()));
+    line(&name, plan_times(&scattered(), 0));
+}
+
+fn dear_plans() {
+    for shape in [CHAIN, LOOSE] {
+        let name = format!("plan {} of 64, cost {COST}", shape.0);
+        line(&name, plan_times(&[record(shape, 64, 1)], COST));
+    }
+    let name = format!("plan chain of 64, half joins, cost {COST}");
+    line(&name, plan_times(&[half_joins(64, 1)], COST));
 }
 
 /// The records take turns.
-fn plan_times(records: &[Vec<u8>]) -> (f64, f64) {
+fn plan_times(records: &[Vec<u8>], cost: u64) -> (f64, f64) {
     let mut words = [Aligned([0; PLAN_WORDS]); 2];
     let [Aligned(library), Aligned(reference)] = &mut words;
     let (mut ours, mut theirs) = (turns(records), turns(records));
     pair(
         || {
-            black_box(ffi::plan(black_box(ours()), black_box(library)));
+            let record = black_box(ours());
+            black_box(ffi::plan(record, black_box(library), black_box(cost)));
         },
         || {
-            black_box(reference::plan(black_box(theirs()), black_box(reference)));
+            let (record, words) = (black_box(theirs()), black_box(&mut *reference));
+            black_box(reference::plan(record, words, black_box(cost)));
         },
     )
 }
@@ -112,13 +126,13 @@ fn admit_times(record: &[u8], kept: &[Row; 16]) -> (f64, f64) {
     pair(
         || {
             refresh(one, kept);
-            let answer = ffi::admit(black_box(record), black_box(library), black_box(one));
-            black_box(answer);
+            let (record, words) = (black_box(record), black_box(&mut *library));
+            black_box(ffi::admit(record, words, black_box(one), black_box(0)));
         },
         || {
             refresh(other, kept);
-            let words = black_box(&mut *reference);
-            let answer = reference::admit(black_box(record), words, black_box(other));
+            let (record, words) = (black_box(record), black_box(&mut *reference));
+            let answer = reference::admit(record, words, black_box(other), black_box(0));
             black_box(answer);
         },
     )

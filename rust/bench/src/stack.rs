@@ -2,7 +2,7 @@
 //! seen how far down the paint is gone.
 
 use crate::frames;
-use crate::setup::{board, half_joins, record, RING, SHAPES};
+use crate::setup::{board, half_joins, record, COST, RING, SHAPES};
 use ffi::task::Task;
 use reference::PLAN_WORDS;
 use std::hint::black_box;
@@ -28,7 +28,7 @@ pub fn print() {
     println!();
     println!("stack in bytes, with the small frame that makes the call; for plan and admit");
     println!("the deepest of 64 nodes in each shape, a chain half of joins, the ring and the");
-    println!("longest record");
+    println!("longest record, at cost {COST}");
     println!("{:42}{:>9}{:>11}", "", "library", "reference");
     let with_id = |(shape, id)| record(shape, 64, id);
     let shapes = SHAPES.into_iter().chain([RING]);
@@ -60,10 +60,10 @@ fn line(name: &str, library: usize, reference: usize) {
 fn plan_depths(records: &[Vec<u8>]) {
     let mut words = [0; PLAN_WORDS];
     let library = deepest(records, |record| {
-        black_box(ffi::plan(record, black_box(&mut words)));
+        black_box(ffi::plan(record, black_box(&mut words), COST));
     });
     let reference = deepest(records, |record| {
-        black_box(reference::plan(record, black_box(&mut words)));
+        black_box(reference::plan(record, black_box(&mut words), COST));
     });
     line("plan", library, reference);
 }
@@ -76,6 +76,7 @@ fn admit_depths(records: &[Vec<u8>]) {
             record,
             black_box(&mut words),
             black_box(&mut rows),
+            COST,
         ));
     });
     let mut rows = board(10);
@@ -84,6 +85,7 @@ fn admit_depths(records: &[Vec<u8>]) {
             record,
             black_box(&mut words),
             black_box(&mut rows),
+            COST,
         ));
     });
     line("admit", library, reference);

@@ -6,10 +6,19 @@ use reference::{Answer, Row};
 
 #[derive(Clone, PartialEq)]
 pub enum Call {
-    Plan(Vec<u8>),
-    Admit(Vec<u8>),
+    /// A record, and a cost.
+    Plan(Vec<u8>, u64),
+    Admit(Vec<u8>, u64),
     Withdraw(u64),
     Ask(u64),
+}
+
+impl Call {
+    /// Planned, then admitted.
+    pub fn both(record: &[u8], cost: u64) -> [Call; 2] {
+        let record = record.to_vec();
+        [Call::Plan(record.clone(), cost), Call::Admit(record, cost)]
+    }
 }
 
 #[derive(Clone, PartialEq)]
@@ -33,8 +42,8 @@ pub struct Difference {
 
 /// The four calls of one side.
 struct Planner {
-    plan: fn(&[u8], &mut [u64]) -> Answer,
-    admit: fn(&[u8], &mut [u64], &mut [Row]) -> Answer,
+    plan: fn(&[u8], &mut [u64], u64) -> Answer,
+    admit: fn(&[u8], &mut [u64], &mut [Row], u64) -> Answer,
     withdraw: fn(&mut [Row], u64) -> Answer,
     ask: fn(&[Row], u64) -> Answer,
 }
@@ -99,14 +108,14 @@ impl Lent {
     }
 
     fn make(&mut self, call: &Call, by: &Planner) -> Answer {
-        if let Call::Plan(record) | Call::Admit(record) = call {
+        if let Call::Plan(record, _) | Call::Admit(record, _) = call {
             self.record.refill(record);
         }
         let words = self.words.inside();
         let board = self.board.inside();
         match *call {
-            Call::Plan(_) => (by.plan)(self.record.inside(), words),
-            Call::Admit(_) => (by.admit)(self.record.inside(), words, board),
+            Call::Plan(_, cost) => (by.plan)(self.record.inside(), words, cost),
+            Call::Admit(_, cost) => (by.admit)(self.record.inside(), words, board, cost),
             Call::Withdraw(id) => (by.withdraw)(board, id),
             Call::Ask(cores) => (by.ask)(board, cores),
         }

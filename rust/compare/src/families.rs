@@ -3,7 +3,8 @@
 
 use crate::boards::{free_board, random_board, tight_board, SPOILS};
 use crate::case::{difference, Call, Case};
-use crate::chance::{any_board, any_call, any_record, board_calls, old_words};
+use crate::chance::{any_board, any_call, any_cost, any_record, board_calls, old_words};
+use crate::costs::{self, ALLOWED, COSTS, REFUSED};
 use crate::joins::{self, sprinkle};
 use crate::loops::drawings;
 use crate::random::Random;
@@ -52,6 +53,7 @@ impl Run {
         self.family("loops", Run::loops)?;
         self.family("editions", Run::editions)?;
         self.family("joins", Run::joins)?;
+        self.family("costs", Run::costs)?;
         self.family("word buffers", Run::word_buffers)?;
         self.family("board lengths", Run::board_lengths)?;
         self.family("board rows", Run::board_rows)?;
@@ -92,16 +94,33 @@ impl Run {
         })
     }
 
+    fn plan_at(&mut self, record: Vec<u8>, cost: u64) -> Outcome {
+        self.on_board(vec![], vec![Call::Plan(record, cost)])
+    }
+
+    /// At a cost by chance.
     fn plan(&mut self, record: Vec<u8>) -> Outcome {
-        self.on_board(vec![], vec![Call::Plan(record)])
+        let cost = any_cost(&mut self.random);
+        self.plan_at(record, cost)
+    }
+
+    /// Each at a cost by chance.
+    fn plan_and_admit(&mut self, record: Vec<u8>) -> Outcome {
+        let calls = vec![
+            Call::Plan(record.clone(), any_cost(&mut self.random)),
+            Call::Admit(record, any_cost(&mut self.random)),
+        ];
+        self.on_board(free_board(), calls)
     }
 
     fn worked_tables(&mut self) -> Outcome {
         for record in WORKED {
-            let mut calls = vec![Call::Plan(record.to_vec()), Call::Admit(record.to_vec())];
-            calls.extend((0..=66).map(Call::Ask));
-            calls.extend([0, 3, 7, 9, 65_535, 65_536].map(Call::Withdraw));
-            self.on_board(free_board(), calls)?;
+            for cost in COSTS {
+                let mut calls = Call::both(record, cost).to_vec();
+                calls.extend((0..=66).map(Call::Ask));
+                calls.extend([0, 3, 7, 9, 65_535, 65_536].map(Call::Withdraw));
+                self.on_board(free_board(), calls)?;
+            }
         }
         Ok(())
     }
@@ -109,9 +128,7 @@ impl Run {
     fn cuts(&mut self) -> Outcome {
         for record in samples(&mut self.random) {
             for length in 0..=record.len() {
-                let cut = record[..length].to_vec();
-                let calls = vec![Call::Plan(cut.clone()), Call::Admit(cut)];
-                self.on_board(free_board(), calls)?;
+                self.plan_and_admit(record[..length].to_vec())?;
             }
         }
         Ok(())
@@ -169,12 +186,14 @@ impl Run {
     fn parent_counts(&mut self) -> Outcome {
         for count in 1..=64 {
             for written in [0, 1, count - 1, count, count + 1] {
-                let mut task = task_of(&mut self.random, count);
-                let node = self.random.index(count as usize);
-                task.nodes[node].parents = (0..written).collect();
-                self.plan(task.record())?;
-                task.nodes[node].parents.reverse();
-                self.plan(task.record())?;
+                for cost in COSTS {
+                    let mut task = task_of(&mut self.random, count, cost);
+                    let node = self.random.index(count as usize);
+                    task.nodes[node].parents = (0..written).collect();
+                    self.plan_at(task.record(), cost)?;
+                    task.nodes[node].parents.reverse();
+                    self.plan_at(task.record(), cost)?;
+                }
             }
         }
         Ok(())
@@ -186,9 +205,7 @@ impl Run {
             if self.random.one_in(2) {
                 sprinkle(&mut self.random, &mut task);
             }
-            let record = task.record();
-            let calls = vec![Call::Plan(record.clone()), Call::Admit(record)];
-            self.on_board(free_board(), calls)?;
+            self.plan_and_admit(task.record())?;
         }
         Ok(())
     }
@@ -202,29 +219,48 @@ impl Run {
             half_joins(chain(1)),
         ];
         for numbers in tasks.map(|task| task.numbers()) {
+            let mut records = Vec::new();
             let large = [1 << 14, 1 << 16, 1 << 21, 1 << 28].map(|more| more + 2);
             for edition in (0..=300).chain(large) {
                 let mut changed = numbers.clone();
                 changed[0] = edition;
-                self.plan(encoded(&changed))?;
+                records.push(encoded(&changed));
             }
             for form in [0, 1, 2, 3, 127].into_iter().flat_map(bad_forms) {
-                self.plan(with_form(&numbers, 0, &form))?;
+                records.push(with_form(&numbers, 0, &form));
+            }
+            for record in records {
+                let calls = COSTS.map(|cost| Call::Plan(record.clone(), cost));
+                self.on_board(vec![], calls.into())?;
             }
         }
         Ok(())
     }
 
     fn joins(&mut self) -> Outcome {
-        for task in joins::tasks(&mut self.random) {
-            let record = task.record();
-            let followed = [&record[..], &[0]].concat();
-            let calls = vec![
-                Call::Plan(record.clone()),
-                Call::Plan(followed),
-                Call::Admit(record),
-                Call::Ask(self.random.between(1, 64)),
-            ];
+        for cost in ALLOWED {
+            for task in joins::tasks(&mut self.random, cost) {
+                let record = task.record();
+                let followed = [&record[..], &[0]].concat();
+                let refused = self.random.pick(&REFUSED);
+                let calls = vec![
+                    Call::Plan(record.clone(), cost),
+                    Call::Plan(followed, cost),
+                    Call::Admit(record.clone(), refused),
+                    Call::Admit(record, cost),
+                    Call::Ask(self.random.between(1, 64)),
+                ];
+                self.on_board(free_board(), calls)?;
+            }
+        }
+        Ok(())
+    }
+
+    fn costs(&mut self) -> Outcome {
+        for case in costs::beside_refusals(&mut self.random) {
+            self.compare(case)?;
+        }
+        for calls in costs::lists(&mut self.random) {
             self.on_board(free_board(), calls)?;
         }
         Ok(())
@@ -232,11 +268,11 @@ impl Run {
 
     fn word_buffers(&mut self) -> Outcome {
         for length in [0, 1, 3, 200, 385, 386, 387, 388, 389, 500, 2_000] {
-            for _ in 0..60 {
-                let record = any_record(&mut self.random);
+            for cost in COSTS.repeat(60) {
+                let record = any_record(&mut self.random, cost);
                 let board = any_board(&mut self.random);
                 let words = old_words(&mut self.random, length);
-                let calls = vec![Call::Plan(record.clone()), Call::Admit(record)];
+                let calls = Call::both(&record, cost).into();
                 self.compare(Case {
                     words,
                     board,
@@ -249,10 +285,10 @@ impl Run {
 
     fn board_lengths(&mut self) -> Outcome {
         for length in (0..=20).chain([32, 64, 300]) {
-            for _ in 0..20 {
+            for cost in COSTS.repeat(8) {
                 let mut board = random_board(&mut self.random);
                 board.resize(length, Row::default());
-                let calls = board_calls(&mut self.random);
+                let calls = board_calls(&mut self.random, cost);
                 self.on_board(board, calls)?;
             }
         }
@@ -262,10 +298,10 @@ impl Run {
     fn board_rows(&mut self) -> Outcome {
         for spoil in SPOILS {
             for at in 0..16 {
-                for _ in 0..8 {
+                for cost in COSTS.repeat(2) {
                     let mut board = random_board(&mut self.random);
                     spoil(&mut board[at]);
-                    let calls = board_calls(&mut self.random);
+                    let calls = board_calls(&mut self.random, cost);
                     self.on_board(board, calls)?;
                 }
             }
@@ -273,12 +309,15 @@ impl Run {
         Ok(())
     }
 
+    /// Before a task is admitted, and after.
     fn verdicts(&mut self) -> Outcome {
         for cores in 1..=64 {
-            for _ in 0..30 {
+            for cost in COSTS.repeat(6) {
                 let board = tight_board(&mut self.random, cores);
-                let calls = [cores - 1, cores, cores + 1].map(Call::Ask);
-                self.on_board(board, calls.into())?;
+                let asks = [cores - 1, cores, cores + 1].map(Call::Ask);
+                let admit = Call::Admit(any_record(&mut self.random, cost), cost);
+                let calls = [&asks[..], &[admit], &asks].concat();
+                self.on_board(board, calls)?;
             }
         }
         Ok(())
@@ -306,30 +345,31 @@ impl Run {
 
     fn one_by_chance(&mut self) -> Outcome {
         let random = &mut self.random;
+        let cost = any_cost(random);
         match random.below(64) {
             0 => self.sequence(100),
             1..=8 => {
                 let board = any_board(random);
-                let calls = board_calls(random);
+                let calls = board_calls(random, cost);
                 self.on_board(board, calls)
             }
             9..=16 => {
                 let bytes = random_bytes(random);
-                self.plan(bytes)
+                self.plan_at(bytes, cost)
             }
             17..=24 => {
-                let record = random_task(random).record();
+                let record = random_task(random, cost).record();
                 let record = spoilt(random, record);
-                self.plan(record)
+                self.plan_at(record, cost)
             }
             25..=32 => {
-                let numbers = random_task(random).numbers();
+                let numbers = random_task(random, cost).numbers();
                 let record = misspelt(random, &numbers);
-                self.plan(record)
+                self.plan_at(record, cost)
             }
             _ => {
-                let record = random_task(random).record();
-                self.plan(record)
+                let record = random_task(random, cost).record();
+                self.plan_at(record, cost)
             }
         }
     }

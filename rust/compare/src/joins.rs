@@ -17,17 +17,18 @@ pub fn sprinkle(random: &mut Random, task: &mut Task) {
     }
 }
 
-pub fn tasks(random: &mut Random) -> Vec<Task> {
-    let mut tasks = runs_of_joins(random);
-    tasks.extend(meetings(random));
+/// Their periods are for that cost.
+pub fn tasks(random: &mut Random, cost: u64) -> Vec<Task> {
+    let mut tasks = runs_of_joins(random, cost);
+    tasks.extend(meetings(random, cost));
     let last_first: Vec<Task> = tasks.iter().map(last_first).collect();
     tasks.extend(last_first);
     for count in 1..=64 {
         let step = random.below(count);
         tasks.extend([
-            task(random, chain(count), &|_| true),
-            task(random, ring(count), &|_| true),
-            task(random, ring(count), &|node| node != step),
+            task(random, cost, chain(count), &|_| true),
+            task(random, cost, ring(count), &|_| true),
+            task(random, cost, ring(count), &|node| node != step),
         ]);
     }
     tasks
@@ -35,15 +36,15 @@ pub fn tasks(random: &mut Random) -> Vec<Task> {
 
 /// In 64 nodes of each shape, all joins but one, one join, and joins up to a
 /// node or from there on.
-fn runs_of_joins(random: &mut Random) -> Vec<Task> {
+fn runs_of_joins(random: &mut Random, cost: u64) -> Vec<Task> {
     let mut tasks = Vec::new();
     for parents in [chain(64), fork(64), dense(64), vec![vec![]; 64]] {
         for at in 0..64 {
             tasks.extend([
-                task(random, parents.clone(), &|node| node != at),
-                task(random, parents.clone(), &|node| node == at),
-                task(random, parents.clone(), &|node| node < at),
-                task(random, parents.clone(), &|node| node > at),
+                task(random, cost, parents.clone(), &|node| node != at),
+                task(random, cost, parents.clone(), &|node| node == at),
+                task(random, cost, parents.clone(), &|node| node < at),
+                task(random, cost, parents.clone(), &|node| node > at),
             ]);
         }
     }
@@ -52,12 +53,12 @@ fn runs_of_joins(random: &mut Random) -> Vec<Task> {
 
 /// Branches that part at a join and meet at the next, once and again; and the
 /// same in edition 1, with a unit for each join.
-fn meetings(random: &mut Random) -> Vec<Task> {
+fn meetings(random: &mut Random, cost: u64) -> Vec<Task> {
     let mut tasks = Vec::new();
     for width in 1..=62 {
         for meetings in 1..=63 / (width + 1) {
             let is_join = |node| node % (width + 1) == 0;
-            let joined = task(random, meeting(width, meetings), &is_join);
+            let joined = task(random, cost, meeting(width, meetings), &is_join);
             let mut unit = joined.clone();
             unit.edition = 1;
             let executions = unit.nodes.iter_mut().map(|node| &mut node.execution);
@@ -79,7 +80,12 @@ fn meeting(width: u64, meetings: u64) -> Vec<Vec<u64>> {
 }
 
 /// A task of edition 2 with these joins.
-fn task(random: &mut Random, parents: Vec<Vec<u64>>, is_join: &dyn Fn(u64) -> bool) -> Task {
+fn task(
+    random: &mut Random,
+    cost: u64,
+    parents: Vec<Vec<u64>>,
+    is_join: &dyn Fn(u64) -> bool,
+) -> Task {
     let executions = executions(random, parents.len() as u64);
     let numbered = (0..).zip(executions).zip(parents);
     let node = |((node, execution), parents)| Node {
@@ -92,7 +98,7 @@ fn task(random: &mut Random, parents: Vec<Vec<u64>>, is_join: &dyn Fn(u64) -> bo
         period: 1,
         nodes: numbered.map(node).collect(),
     };
-    with_period(random, task)
+    with_period(random, task, cost)
 }
 
 /// The same task with its last node listed first.

@@ -4,6 +4,7 @@
 mod boards;
 mod case;
 mod chance;
+mod costs;
 mod draft;
 mod edition1;
 mod families;

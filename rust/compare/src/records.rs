@@ -29,7 +29,7 @@ pub const WORKED: [&[u8]; 18] = [
 
 /// Well-formed numbers of short records, to be changed one by one.
 pub fn short_lists(random: &mut Random) -> Vec<Vec<u64>> {
-    let mut tasks: Vec<Task> = [1, 2, 3, 5].map(|count| task_of(random, count)).into();
+    let mut tasks: Vec<Task> = [1, 2, 3, 5].map(|count| task_of(random, count, 0)).into();
     tasks.extend([chain(64), fork(64), dense(12)].map(plain_task));
     tasks.extend([chain(16), fork(16)].map(half_joins));
     tasks.iter().map(Task::numbers).collect()
@@ -43,7 +43,7 @@ pub fn samples(random: &mut Random) -> Vec<Vec<u8>> {
     let shapes = [chain(64), fork(64), dense(16)];
     records.extend(shapes.map(|parents| half_joins(parents).record()));
     records.push(Task::longest().record());
-    records.extend((0..12).map(|_| random_task(random).record()));
+    records.extend((0..12).map(|_| random_task(random, 0).record()));
     records
 }
 

@@ -49,15 +49,16 @@ fn answer(answer: &Answer) -> String {
 
 fn text(call: &Call) -> String {
     match call {
-        Call::Plan(record) => format!("plan, {} bytes:{}", record.len(), hex(record)),
-        Call::Admit(record) => format!("admit, {} bytes:{}", record.len(), hex(record)),
+        Call::Plan(record, cost) => format!("plan at cost {cost}, {}", bytes(record)),
+        Call::Admit(record, cost) => format!("admit at cost {cost}, {}", bytes(record)),
         Call::Withdraw(id) => format!("withdraw {id}"),
         Call::Ask(cores) => format!("ask {cores}"),
     }
 }
 
-fn hex(record: &[u8]) -> String {
-    record.iter().map(|byte| format!(" {byte:02X}")).collect()
+fn bytes(record: &[u8]) -> String {
+    let hex: String = record.iter().map(|byte| format!(" {byte:02X}")).collect();
+    format!("{} bytes:{hex}", record.len())
 }
 
 fn words(words: &[u64]) -> String {

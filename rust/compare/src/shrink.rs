@@ -74,18 +74,25 @@ fn shrink_call(case: &mut Case, at: usize) {
         Call::Ask(cores) => lower(cores, |cores| {
             keeps(case, |case| case.calls[at] = Call::Ask(cores))
         }),
-        Call::Plan(_) | Call::Admit(_) => {
+        Call::Plan(_, cost) | Call::Admit(_, cost) => {
+            lower(cost, |cost| {
+                keeps(case, |case| *record_and_cost(case, at).1 = cost)
+            });
             shrink_task(case, at);
             shrink_bytes(case, at);
         }
     }
 }
 
-fn record(case: &mut Case, at: usize) -> &mut Vec<u8> {
+fn record_and_cost(case: &mut Case, at: usize) -> (&mut Vec<u8>, &mut u64) {
     match &mut case.calls[at] {
-        Call::Plan(record) | Call::Admit(record) => record,
+        Call::Plan(record, cost) | Call::Admit(record, cost) => (record, cost),
         Call::Withdraw(_) | Call::Ask(_) => unreachable!("this call has no record"),
     }
+}
+
+fn record(case: &mut Case, at: usize) -> &mut Vec<u8> {
+    record_and_cost(case, at).0
 }
 
 fn shrink_bytes(case: &mut Case, at: usize) {

@@ -1,5 +1,5 @@
 //! What the library answered before it read edition 2, held against what it
-//! answers now. The reference has no part in this.
+//! answers now at cost 0. The reference has no part in this.
 
 use crate::edition1::records;
 use reference::{Answer, Row, PLAN_WORDS};
@@ -42,7 +42,7 @@ fn lines() -> Vec<String> {
 
 fn line(record: &[u8]) -> String {
     let mut words = [OLD; PLAN_WORDS + 1];
-    let answer = ffi::plan(record, &mut words);
+    let answer = ffi::plan(record, &mut words, 0);
     let Answer {
         refusal,
         place,
@@ -63,7 +63,7 @@ const OLD: u64 = 0xA5A5_A5A5_A5A5_A5A5;
 fn admitted(record: &[u8]) -> Vec<u64> {
     let mut words = [OLD; PLAN_WORDS + 1];
     let mut board = [Row::default(); 16];
-    let answer = ffi::admit(record, &mut words, &mut board);
+    let answer = ffi::admit(record, &mut words, &mut board, 0);
     let mut all = vec![answer.refusal, answer.place, answer.value, answer.ring];
     all.extend(words);
     for row in board {

@@ -1,4 +1,4 @@
-//! Random tasks, and periods that sit on the edge of a rule.
+//! Random tasks, and periods that sit on the edge of a rule, at a cost.
 
 use crate::joins::sprinkle;
 use crate::random::Random;
@@ -6,19 +6,21 @@ use ffi::task::{chain, dense, fork, Node, Task};
 use reference::PLAN_WORDS;
 
 pub const LARGEST_PERIOD: u64 = 16_777_215;
+pub const LARGEST_COST: u64 = 255;
 
-/// Any task: edition, shape, numbering, executions and period all by chance.
-pub fn random_task(random: &mut Random) -> Task {
+/// Any task: edition, shape, numbering, executions and period all by chance,
+/// the period for that cost.
+pub fn random_task(random: &mut Random, cost: u64) -> Task {
     let most = random.pick(&[4, 16, 64]);
     let count = if random.one_in(16) {
         64
     } else {
         random.between(1, most)
     };
-    task_of(random, count)
+    task_of(random, count, cost)
 }
 
-pub fn task_of(random: &mut Random, count: u64) -> Task {
+pub fn task_of(random: &mut Random, count: u64, cost: u64) -> Task {
     let mut parents = graph(random, count);
     if random.one_in(8) {
         close_a_loop(random, &mut parents);
@@ -35,7 +37,7 @@ pub fn task_of(random: &mut Random, count: u64) -> Task {
     if random.one_in(2) {
         sprinkle(random, &mut task);
     }
-    with_period(random, task)
+    with_period(random, task, cost)
 }
 
 /// A graph whose edges all go up.
@@ -107,23 +109,25 @@ pub fn executions(random: &mut Random, count: u64) -> Vec<u64> {
 }
 
 /// Work, path, and the threads that occur.
-struct Profile {
-    work: u64,
-    path: u64,
+pub struct Profile {
+    pub work: u64,
+    pub path: u64,
     threads: Vec<u64>,
 }
 
-/// From the plan at the longest period, where no path is too long.
-fn profile(task: &Task) -> Option<Profile> {
+/// From the plan at the longest period, where no path is too long. A cost that
+/// is refused counts as the largest.
+pub fn profile(task: &Task, cost: u64) -> Option<Profile> {
     let mut roomy = task.clone();
     roomy.period = LARGEST_PERIOD;
     let mut words = [0; PLAN_WORDS];
-    if reference::plan(&roomy.record(), &mut words).refusal != 0 {
+    if reference::plan(&roomy.record(), &mut words, cost.min(LARGEST_COST)).refusal != 0 {
         return None;
     }
     let segments = words[3..].chunks(3).take(words[1] as usize);
+    let work = |segment: &[u64]| segment[0] * segment[1];
     Some(Profile {
-        work: task.nodes.iter().map(|node| node.execution).sum(),
+        work: segments.clone().map(work).sum(),
         path: segments.clone().map(|segment| segment[1]).sum(),
         threads: segments.map(|segment| segment[0]).collect(),
     })
@@ -131,13 +135,13 @@ fn profile(task: &Task) -> Option<Profile> {
 
 /// The task with a period by chance; where it has to, the search for one
 /// changes executions.
-pub fn with_period(random: &mut Random, mut task: Task) -> Task {
-    task.period = period(random, &mut task);
+pub fn with_period(random: &mut Random, mut task: Task, cost: u64) -> Task {
+    task.period = period(random, &mut task, cost);
     task
 }
 
-fn period(random: &mut Random, task: &mut Task) -> u64 {
-    let Some(Profile { work, path, .. }) = profile(task) else {
+fn period(random: &mut Random, task: &mut Task, cost: u64) -> u64 {
+    let Some(Profile { work, path, .. }) = profile(task, cost) else {
         return random.between(1, 1_000);
     };
     match random.below(8) {
@@ -147,18 +151,18 @@ fn period(random: &mut Random, task: &mut Task) -> u64 {
         3 => random.between(path, path + work),
         4 => random.between(path, 2 * path),
         5 => random.pick(&[1, LARGEST_PERIOD, LARGEST_PERIOD - 1]),
-        _ => tie(random, task).map_or(path, |at| random.between(at.max(2) - 1, at + 1)),
+        _ => tie(random, task, cost).map_or(path, |at| random.between(at.max(2) - 1, at + 1)),
     }
 }
 
 /// A period with m x (2T - P) = C for the threads m of some segment.
-fn tie(random: &mut Random, task: &mut Task) -> Option<u64> {
+fn tie(random: &mut Random, task: &mut Task, cost: u64) -> Option<u64> {
     for _ in 0..20 {
         let Profile {
             work,
             path,
             threads,
-        } = profile(task)?;
+        } = profile(task, cost)?;
         let ties = |&&m: &&u64| {
             work.is_multiple_of(m) && work / m >= path && (work / m + path).is_multiple_of(2)
         };

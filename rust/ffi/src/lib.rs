@@ -9,7 +9,13 @@ use reference::{Answer, Row};
 pub const LIBRARY: &str = env!("PLANNER_LIBRARY");
 
 extern "C" {
-    fn planner_plan(record: *const u8, bytes: usize, words: *mut u64, lent: usize) -> Answer;
+    fn planner_plan(
+        record: *const u8,
+        bytes: usize,
+        words: *mut u64,
+        lent: usize,
+        cost: u64,
+    ) -> Answer;
     fn planner_admit(
         record: *const u8,
         bytes: usize,
@@ -17,22 +23,23 @@ extern "C" {
         lent: usize,
         board: *mut Row,
         rows: usize,
+        cost: u64,
     ) -> Answer;
     fn planner_withdraw(board: *mut Row, rows: usize, id: u64) -> Answer;
     fn planner_ask(board: *const Row, rows: usize, cores: u64) -> Answer;
 }
 
-pub fn plan(record: &[u8], words: &mut [u64]) -> Answer {
+pub fn plan(record: &[u8], words: &mut [u64], cost: u64) -> Answer {
     let (bytes, lent) = (record.len(), words.len());
     // SAFETY: each pointer goes with its own slice's length.
-    unsafe { planner_plan(record.as_ptr(), bytes, words.as_mut_ptr(), lent) }
+    unsafe { planner_plan(record.as_ptr(), bytes, words.as_mut_ptr(), lent, cost) }
 }
 
-pub fn admit(record: &[u8], words: &mut [u64], board: &mut [Row]) -> Answer {
+pub fn admit(record: &[u8], words: &mut [u64], board: &mut [Row], cost: u64) -> Answer {
     let (bytes, lent, rows) = (record.len(), words.len(), board.len());
     let (record, words, board) = (record.as_ptr(), words.as_mut_ptr(), board.as_mut_ptr());
     // SAFETY: each pointer goes with its own slice's length; no two overlap.
-    unsafe { planner_admit(record, bytes, words, lent, board, rows) }
+    unsafe { planner_admit(record, bytes, words, lent, board, rows, cost) }
 }
 
 pub fn withdraw(board: &mut [Row], id: u64) -> Answer {

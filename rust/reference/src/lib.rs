@@ -22,7 +22,7 @@ pub use sheet::sheet;
 use board::{find, free_row, sound, verdict, ROWS};
 use plan::{lent_words, write_plan};
 use record::Table;
-use refusal::Refusal;
+use refusal::{Refusal, Rule};
 use timing::Timing;
 
 /// What every call returns. With refusal 0, `value` is the words written, the
@@ -54,14 +54,15 @@ impl From<Result<u64, Refusal>> for Answer {
     }
 }
 
-/// Plans the record's task into the lent words; the value is their number.
-pub fn plan(record: &[u8], words: &mut [u64]) -> Answer {
-    planned(record, words).into()
+/// Plans the record's task into the lent words, each step at that dispatch
+/// cost; the value is the number of words.
+pub fn plan(record: &[u8], words: &mut [u64], cost: u64) -> Answer {
+    planned(record, words, cost).into()
 }
 
 /// Plans the record's task and puts it on the board; the value is its row.
-pub fn admit(record: &[u8], words: &mut [u64], board: &mut [Row]) -> Answer {
-    admitted(record, words, board).into()
+pub fn admit(record: &[u8], words: &mut [u64], board: &mut [Row], cost: u64) -> Answer {
+    admitted(record, words, board, cost).into()
 }
 
 /// Takes a standing task off the board; the value is the row it leaves.
@@ -77,19 +78,28 @@ pub fn ask(board: &[Row], cores: u64) -> Answer {
         .into()
 }
 
-fn planned(record: &[u8], words: &mut [u64]) -> Result<u64, Refusal> {
+fn planned(record: &[u8], words: &mut [u64], cost: u64) -> Result<u64, Refusal> {
+    allowed(cost)?;
     let words = lent_words(words)?;
-    let table = Table::read(record)?;
+    let mut table = Table::read(record)?;
+    table.pay(cost);
     let timing = Timing::of(&table)?;
     Ok(write_plan(&table, &timing, words).words)
 }
 
 /// Row and id are settled before the first word is written, since 12 and 13
 /// must leave the plan untouched too.
-fn admitted(record: &[u8], words: &mut [u64], board: &mut [Row]) -> Result<u64, Refusal> {
+fn admitted(
+    record: &[u8],
+    words: &mut [u64],
+    board: &mut [Row],
+    cost: u64,
+) -> Result<u64, Refusal> {
+    allowed(cost)?;
     let words = lent_words(words)?;
     let rows: &[Row; ROWS] = sound(board)?;
-    let table = Table::read(record)?;
+    let mut table = Table::read(record)?;
+    table.pay(cost);
     let timing = Timing::of(&table)?;
     let row = free_row(rows, table.id)?;
     let written = write_plan(&table, &timing, words);
@@ -100,6 +110,14 @@ fn admitted(record: &[u8], words: &mut [u64], board: &mut [Row]) -> Result<u64, 
         largest: written.largest,
     };
     Ok(row as u64)
+}
+
+/// Refusal 26.
+fn allowed(cost: u64) -> Result<(), Refusal> {
+    if cost > Table::LARGEST_COST {
+        return Err(Rule::Cost.into());
+    }
+    Ok(())
 }
 
 fn withdrawn(board: &mut [Row], id: u64) -> Result<u64, Refusal> {

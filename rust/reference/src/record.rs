@@ -2,8 +2,8 @@
 
 use crate::refusal::{Refusal, Rule};
 
-/// A task as its record gives it. A node with execution 0 is a join. Entries
-/// past the node count are 0.
+/// A task as its record gives it, with the cost that its steps have paid. A node
+/// with execution 0 is a join. Entries past the node count are 0.
 pub struct Table {
     pub edition: u64,
     pub id: u64,
@@ -20,6 +20,7 @@ impl Table {
     pub const LARGEST_PERIOD: u64 = 16_777_215;
     pub const LARGEST_COUNT: usize = 64;
     pub const LARGEST_EXECUTION: u64 = 65_535;
+    pub const LARGEST_COST: u64 = 255;
 
     /// Refusals 1 to 9 and 18, in the order they are met, then 21.
     pub fn read(record: &[u8]) -> Result<Table, Refusal> {
@@ -47,6 +48,15 @@ impl Table {
             return Err(Rule::NothingRuns.into());
         }
         Ok(table)
+    }
+
+    /// An execution is what is written plus the cost. A join pays nothing.
+    pub fn pay(&mut self, cost: u64) {
+        for execution in &mut self.executions[..self.count] {
+            if *execution > 0 {
+                *execution += cost;
+            }
+        }
     }
 
     /// Only edition 2 has joins.

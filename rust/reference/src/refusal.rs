@@ -22,6 +22,7 @@ pub enum Rule {
     UnsoundBoard = 17,
     NotShortest = 18,
     NothingRuns = 21,
+    Cost = 26,
 }
 
 /// A rule, the byte or node it was broken at, and the nodes of a loop.

@@ -10,7 +10,7 @@ use crate::timing::Timing;
 /// The program looks at no more of its input than this.
 const INPUT_LIMIT: usize = 8_192;
 
-/// What `plansheet` prints with this on its standard input.
+/// What `plansheet` prints with this on its standard input, at cost 0.
 pub fn sheet(input: &[u8]) -> Vec<u8> {
     let record = &input[..input.len().min(INPUT_LIMIT)];
     let text = match lines(record) {

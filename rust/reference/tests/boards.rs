@@ -41,7 +41,7 @@ fn full_board() -> [Row; 16] {
 fn admit_refusal(record: &[u8], lent: usize, board: &[Row]) -> Answer {
     let mut words = vec![OLD; lent];
     let mut rows = board.to_vec();
-    let answer = admit(record, &mut words, &mut rows);
+    let answer = admit(record, &mut words, &mut rows, 0);
     assert_ne!(answer.refusal, 0);
     assert!(words.iter().all(|&word| word == OLD));
     assert_eq!(rows, board);
@@ -53,7 +53,7 @@ fn admit_withdraw_and_admit_again() {
     let mut board = [Row::default(); 16];
     let mut words = [OLD; PLAN_WORDS];
     for at in 0..16 {
-        let answer = admit(&record(at + 1), &mut words, &mut board);
+        let answer = admit(&record(at + 1), &mut words, &mut board, 0);
         assert_eq!(answer, yes(u64::from(at)));
     }
     assert_eq!(board, full_board());
@@ -61,8 +61,8 @@ fn admit_withdraw_and_admit_again() {
     assert_eq!(withdraw(&mut board, 9), yes(8));
     assert_eq!(withdraw(&mut board, 4), yes(3));
     assert_eq!(withdraw(&mut board, 4), refused(14, 0));
-    assert_eq!(admit(&record(99), &mut words, &mut board), yes(3));
-    assert_eq!(admit(&record(98), &mut words, &mut board), yes(8));
+    assert_eq!(admit(&record(99), &mut words, &mut board, 0), yes(3));
+    assert_eq!(admit(&record(98), &mut words, &mut board, 0), yes(8));
     assert_eq!((board[3], board[8]), (row(99), row(98)));
 }
 
@@ -83,9 +83,9 @@ fn order_of_an_admissions_refusals() {
 #[test]
 fn a_short_plan_goes_before_the_record() {
     let mut words = [OLD; PLAN_WORDS - 1];
-    assert_eq!(plan(&[], &mut words), refused(16, 0));
-    assert_eq!(plan(&record(1), &mut words), refused(16, 0));
-    assert_eq!(plan(&record(1), &mut []), refused(16, 0));
+    assert_eq!(plan(&[], &mut words, 0), refused(16, 0));
+    assert_eq!(plan(&record(1), &mut words, 0), refused(16, 0));
+    assert_eq!(plan(&record(1), &mut [], 0), refused(16, 0));
 }
 
 #[test]

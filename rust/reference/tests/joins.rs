@@ -15,7 +15,7 @@ fn refused(refusal: u64, place: u64) -> Answer {
 
 fn answered(record: &[u8]) -> (Answer, Vec<u64>) {
     let mut words = [OLD; PLAN_WORDS + 5];
-    let answer = plan(record, &mut words);
+    let answer = plan(record, &mut words, 0);
     let (written, rest) = words.split_at(answer.value as usize);
     assert!(rest.iter().all(|&word| word == OLD));
     (answer, written.to_vec())
@@ -295,7 +295,7 @@ fn a_row_counts_joins_among_its_nodes() {
     let mut board = [Row::default(); 16];
     let mut words = [OLD; PLAN_WORDS];
     let three = record(2, 9, &chain(&[0, 3, 0]));
-    assert_eq!(admit(&three, &mut words, &mut board), Answer::default());
+    assert_eq!(admit(&three, &mut words, &mut board, 0), Answer::default());
     let row = Row {
         id: 7,
         nodes: 3,
@@ -312,10 +312,11 @@ fn where_21_stands_among_an_admissions_refusals() {
     let task = [2, 7, 9, 1, 3, 0];
     let mut words = [OLD; PLAN_WORDS];
     let mut board = [Row::default(); 16];
-    admit(&task, &mut words, &mut board);
+    admit(&task, &mut words, &mut board, 0);
     // Before 12: the id stands.
-    assert_eq!(admit(&joins, &mut words, &mut board), refused(21, 0));
+    assert_eq!(admit(&joins, &mut words, &mut board, 0), refused(21, 0));
     board[1] = board[0];
-    assert_eq!(admit(&joins, &mut words, &mut board), refused(17, 0));
-    assert_eq!(admit(&joins, &mut words[1..], &mut board), refused(16, 0));
+    assert_eq!(admit(&joins, &mut words, &mut board, 0), refused(17, 0));
+    let short = &mut words[1..];
+    assert_eq!(admit(&joins, short, &mut board, 0), refused(16, 0));
 }

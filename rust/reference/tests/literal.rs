@@ -1,13 +1,16 @@
 //! The planner against the document's definitions taken literally: reaching
 //! by closure, cuts from every start and finish, offsets by walking parents,
-//! a loop by leaving out nodes.
+//! a loop by leaving out nodes, an execution as what is written plus the cost.
 
 use reference::{plan, Answer, PLAN_WORDS};
 use std::collections::BTreeSet;
 
+#[derive(Clone)]
 struct Task {
     edition: u64,
     period: u64,
+    cost: u64,
+    /// As they are written.
     executions: Vec<u64>,
     parents: Vec<Vec<usize>>,
 }
@@ -55,15 +58,16 @@ impl Task {
             }
         }
         let edition = 1 + random.below(2);
-        let executions = executions(random, edition, count, largest);
-        let work: u64 = executions.iter().sum();
-        let period = 1 + random.below(3 * work.max(1));
-        Task {
+        let any_cost = random.below(256);
+        let mut task = Task {
             edition,
-            period,
-            executions,
+            period: 0,
+            cost: [0, 1, any_cost, 255][random.below(4) as usize],
+            executions: executions(random, edition, count, largest),
             parents,
-        }
+        };
+        task.period = 1 + random.below(3 * task.work().max(1));
+        task
     }
 
     fn record(&self) -> Vec<u8> {
@@ -78,6 +82,26 @@ impl Task {
             }
         }
         bytes
+    }
+
+    /// The answer, and the words that hold the plan.
+    fn planned(&self) -> (Answer, Vec<u64>) {
+        let mut words = [0; PLAN_WORDS];
+        let answer = plan(&self.record(), &mut words, self.cost);
+        (answer, words[..answer.value as usize].to_vec())
+    }
+
+    /// Written plus cost; a join pays nothing.
+    fn execution(&self, node: usize) -> u64 {
+        match self.executions[node] {
+            0 => 0,
+            written => written + self.cost,
+        }
+    }
+
+    fn work(&self) -> u64 {
+        let nodes = 0..self.executions.len();
+        nodes.map(|node| self.execution(node)).sum()
     }
 
     /// Whether the node is reached from itself by edges inside the set.
@@ -127,7 +151,7 @@ impl Task {
     }
 
     fn finish(&self, node: usize) -> u64 {
-        self.latest(node, &|parent| self.finish(parent)) + self.executions[node]
+        self.latest(node, &|parent| self.finish(parent)) + self.execution(node)
     }
 
     fn offset(&self, node: usize, deadlines: &[u64]) -> u64 {
@@ -164,7 +188,7 @@ impl Segment {
 fn segments(task: &Task) -> Vec<Segment> {
     let count = task.executions.len();
     let finishes: Vec<u64> = (0..count).map(|node| task.finish(node)).collect();
-    let start = |node: usize| finishes[node] - task.executions[node];
+    let start = |node: usize| finishes[node] - task.execution(node);
     let starts = (0..count).map(start);
     let cuts: BTreeSet<u64> = finishes.iter().copied().chain(starts).collect();
     let cuts: Vec<u64> = cuts.into_iter().collect();
@@ -185,7 +209,7 @@ fn total<'a>(segments: impl IntoIterator<Item = &'a Segment>) -> u64 {
 /// Q and the segments' deadline numerators.
 fn deadlines(task: &Task, segments: &[Segment]) -> (u64, Vec<u64>) {
     let period = task.period;
-    let work: u64 = task.executions.iter().sum();
+    let work = task.work();
     let path = total(segments);
     let is_heavy = |segment: &Segment| segment.threads() * (2 * period - path) > work;
     let l = total(segments.iter().filter(|segment| !is_heavy(segment)));
@@ -246,7 +270,7 @@ fn literal(task: &Task) -> Result<Vec<u64>, Answer> {
         }
     }
     for (node, &deadline) in node_deadlines.iter().enumerate() {
-        let density = density(task.executions[node], over, deadline);
+        let density = density(task.execution(node), over, deadline);
         words.extend([task.offset(node, &node_deadlines), deadline, density]);
     }
     Ok(words)
@@ -255,21 +279,43 @@ fn literal(task: &Task) -> Result<Vec<u64>, Answer> {
 #[test]
 fn random_tasks() {
     let mut random = Random(0x2545_F491_4F6C_DD1D);
-    let (mut planned, mut with_joins) = (0, 0);
+    let (mut planned, mut with_joins, mut with_cost) = (0, 0, 0);
     for _ in 0..20_000 {
         let task = Task::random(&mut random);
-        let mut words = [0; PLAN_WORDS];
-        let answer = plan(&task.record(), &mut words);
+        let (answer, words) = task.planned();
         match literal(&task) {
             Ok(expected) => {
                 planned += 1;
                 with_joins += u64::from(task.executions.contains(&0));
+                with_cost += u64::from(task.cost > 0);
                 assert_eq!(answer.refusal, 0);
-                assert_eq!(words[..answer.value as usize], expected);
+                assert_eq!(words, expected);
             }
             Err(refusal) => assert_eq!(answer, refusal),
         }
     }
     assert!(planned > 5_000, "only {planned} tasks were planned");
     assert!(with_joins > 2_000, "only {with_joins} had joins");
+    assert!(with_cost > 5_000, "only {with_cost} paid a cost");
+}
+
+#[test]
+fn a_cost_may_as_well_be_written() {
+    let mut random = Random(0x9E37_79B9_7F4A_7C15);
+    let mut planned = 0;
+    for _ in 0..20_000 {
+        let task = Task::random(&mut random);
+        let nodes = 0..task.executions.len();
+        let dear = Task {
+            cost: 0,
+            executions: nodes.map(|node| task.execution(node)).collect(),
+            ..task.clone()
+        };
+        if dear.executions.iter().all(|&execution| execution <= 65_535) {
+            let (answer, words) = task.planned();
+            planned += u64::from(task.cost > 0 && answer.refusal == 0);
+            assert_eq!((answer, words), dear.planned());
+        }
+    }
+    assert!(planned > 5_000, "only {planned} paid a cost");
 }

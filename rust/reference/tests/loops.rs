@@ -15,7 +15,7 @@ fn looping(place: u64, ring: &[u64]) -> Answer {
 
 fn plan_refusal(record: &[u8]) -> Answer {
     let mut words = [OLD; PLAN_WORDS];
-    let answer = plan(record, &mut words);
+    let answer = plan(record, &mut words, 0);
     assert_eq!(words, [OLD; PLAN_WORDS]);
     answer
 }
@@ -118,7 +118,7 @@ fn rings_of_all_nodes() {
 fn admitting_shows_the_loop() {
     let record = record(&[vec![], vec![2], vec![1]]);
     let mut board = [Row::default(); 16];
-    let answer = admit(&record, &mut [OLD; PLAN_WORDS], &mut board);
+    let answer = admit(&record, &mut [OLD; PLAN_WORDS], &mut board, 0);
     assert_eq!(answer, looping(1, &[1, 2]));
     assert_eq!(board, [Row::default(); 16]);
 }

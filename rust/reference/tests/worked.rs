@@ -24,7 +24,7 @@ fn refused(refusal: u64, place: u64) -> Answer {
 /// The written words; the rest of the buffer has to keep its old content.
 fn planned(record: &[u8]) -> Vec<u64> {
     let mut words = [OLD; PLAN_WORDS + 5];
-    let answer = plan(record, &mut words);
+    let answer = plan(record, &mut words, 0);
     assert_eq!((answer.refusal, answer.place), (0, 0));
     let (written, rest) = words.split_at(answer.value as usize);
     assert!(rest.iter().all(|&word| word == OLD));
@@ -33,7 +33,7 @@ fn planned(record: &[u8]) -> Vec<u64> {
 
 fn plan_refusal(record: &[u8]) -> Answer {
     let mut words = [OLD; PLAN_WORDS];
-    let answer = plan(record, &mut words);
+    let answer = plan(record, &mut words, 0);
     assert_eq!(words, [OLD; PLAN_WORDS]);
     answer
 }
@@ -42,7 +42,7 @@ fn board_with(records: &[&[u8]]) -> [Row; 16] {
     let mut board = [Row::default(); 16];
     let mut words = [0; PLAN_WORDS];
     for (row, record) in records.iter().enumerate() {
-        assert_eq!(admit(record, &mut words, &mut board), yes(row as u64));
+        assert_eq!(admit(record, &mut words, &mut board, 0), yes(row as u64));
     }
     board
 }

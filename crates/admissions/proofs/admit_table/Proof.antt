@@ -8,6 +8,8 @@ use lib.ListN.{length, take, drop}
 use denote.Ref.{now}
 use Rattle.refusals.specs.declared.Answer.{Answer}
 use Rattle.refusals.specs.Answer.{accepted}
+use Rattle.tables.specs.declared.TaskTable.{TaskTable}
+use Rattle.tables.specs.Cost.{costed}
 use Rattle.shares.specs.declared.Figures.{Figures}
 use Rattle.plans.specs.Inner.Planned.{Planned}
 use Rattle.plans.specs.Diagram.{segmentCount}
@@ -18,6 +20,10 @@ use Rattle.admissions.specs.Admission.{Admission, rowOf, notAdmitted, en
 use Rattle.admissions.proofs.Tests.{table-out, table-in}
 use Rattle.admissions.proofs.admit_table.Statement.{statement}
 use Rattle.admissions.proofs.admit_table.Tie as tie
+
+-- the table with its cost
+abbrev table : tie.Start → TaskTable
+table s = costed (s .args .table) (s .args .cost)
 
 placed-requires : tie.Need-placed-requires
 placed-requires c κs = search needs
@@ -35,41 +41,44 @@ returns : tie.Need-returns
 returns c =
     let m = c .before .before .before .before .before .before in
     let p = m .before .before .before in
-    let a = p .before .before .args in
-    let e = table-out (a .board .rows) (now (a .words)) (a .table) (p .placed .result) (p .placed .ensures .0) (m .plan-table .ensures .0) (c .before .if1 .taken) in
+    let s = p .before .before in
+    let a = s .args in
+    let e = table-out (a .board .rows) (now (a .words)) (table s) (p .placed .result) (p .placed .ensures .0) (m .plan-table .ensures .0) (c .before .if1 .taken) in
     (c .unchanged .ensures ∙ sym (ap (λ (x : Admission). x .change) e), rw (c .unchanged .ensures) (omega arith), sym (ap (λ (x : Admission). x .words) e))
 
 -- past the test the table has a plan
-accepts : (c : tie.Else1) → Planned (c .before .before .before .before .before .before .before .before .before .before .args .table)
+accepts : (c : tie.Else1) → Planned (table (c .before .before .before .before .before .before .before .before .before .before))
 accepts c = c .before .before .before .before .before .plan-table .ensures .1 (c .if1 .left) .table
 
 -- so its words are written, and its row goes to the place found
-enters : (c : tie.Else1) → (let m = c .before .before .before .before .before in let p = m .before .before .before in let a = p .before .before .args in let f = p .placed .result in
-    (m .plan-table .result .answer ≡ accepted (wordCount (segmentCount (a .table)) (a .table .count))) × (m .plan-table .last .0 ≡ written (a .table) (now (a .words)))
-    × (onTable (notAdmitted (a .board .rows) (now (a .words))) (entered (a .board .rows) (now (a .words))) (a .table) ≡ record { change = record { at = f .at; row = rowOf (a .table); answer = f .answer }; words = written (a .table) (now (a .words)) }))
+enters : (c : tie.Else1) → (let m = c .before .before .before .before .before in let p = m .before .before .before in let s = p .before .before in let a = s .args in let t = table s in let f = p .placed .result in
+    (m .plan-table .result .answer ≡ accepted (wordCount (segmentCount t) (t .count))) × (m .plan-table .last .0 ≡ written t (now (a .words)))
+    × (onTable (notAdmitted (a .board .rows) (now (a .words))) (entered (a .board .rows) (now (a .words))) t ≡ record { change = record { at = f .at; row = rowOf t; answer = f .answer }; words = written t (now (a .words)) }))
 enters c =
     let m = c .before .before .before .before .before in
     let p = m .before .before .before in
-    let a = p .before .before .args in
-    table-in (a .board .rows) (now (a .words)) (a .table) (p .placed .result) (p .placed .ensures .0) (m .plan-table .ensures .0) (c .if1 .left) (accepts c)
+    let s = p .before .before in
+    let a = s .args in
+    table-in (a .board .rows) (now (a .words)) (table s) (p .placed .result) (p .placed .ensures .0) (m .plan-table .ensures .0) (c .if1 .left) (accepts c)
 
 -- how many words there are
-count : (c : tie.Else1) → (let m = c .before .before .before .before .before in let t = m .before .before .before .before .before .args .table in m .plan-table .result .answer .value ≡ wordCount (segmentCount t) (t .count))
+count : (c : tie.Else1) → (let m = c .before .before .before .before .before in let t = table (m .before .before .before .before .before) in m .plan-table .result .answer .value ≡ wordCount (segmentCount t) (t .count))
 count c = ap (λ (x : Answer). x .value) (enters c .0)
 
 -- what stands from the first node's on
-part : (c : tie.Else1) → (let m = c .before .before .before .before .before in let a = m .before .before .before .before .before .args in let k = m .plan-table .result .answer .value - 3 * a .table .count in take (length (m .plan-table .last .0) - k) (drop k (m .plan-table .last .0)) ≡ nodePart (a .table) (now (a .words)))
+part : (c : tie.Else1) → (let m = c .before .before .before .before .before in let s = m .before .before .before .before .before in let k = m .plan-table .result .answer .value - 3 * table s .count in take (length (m .plan-table .last .0) - k) (drop k (m .plan-table .last .0)) ≡ nodePart (table s) (now (s .args .words)))
 part c =
-    let a = c .before .before .before .before .before .before .before .before .before .before .args in
-    part-lent (a .table) (now (a .words)) (enters c .1) (omega (arith, count c))
+    let s = c .before .before .before .before .before .before .before .before .before .before in
+    part-lent (table s) (now (s .args .words)) (enters c .1) (omega (arith, count c))
 
 -- so the row is the task's
 returns-2 : tie.Need-returns-2
 returns-2 c =
     let e = c .before .before .before in
     let p = e .before .before .before .before .before .before .before .before in
-    let a = p .before .before .args in
-    let t = a .table in
+    let s = p .before .before in
+    let a = s .args in
+    let t = table s in
     let same = c .figures-of .ensures ∙ figures-read t (now (a .words)) (part e) in
     let so = enters e .2 in (
       ap (λ (f : Figures). record { at = p .placed .result .at; row = record { id = t .id; nodes = t .count; sum = f .sum; largest = f .largest }; answer = p .placed .result .answer }) same ∙ sym (ap (λ (x : Admission). x .change) so),

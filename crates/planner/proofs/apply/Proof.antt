@@ -46,7 +46,7 @@ use Rattle.boards.proofs.Row.Laws as R′
 use Rattle.boards.proofs.Change as Ch
 use Rattle.boards.proofs.Change.Laws as Ch′
 use Rattle.walks.proofs.Elements.{in-room, points}
-use Rattle.walks.proofs.Locals.{values, function, allocates, full, none, frees, entry, past, var, gets, member}
+use Rattle.walks.proofs.Locals.{values, function, allocates, letting, frees, entry, past, var, gets, member}
 use Rattle.walks.proofs.Told.{Hands, handed, handed-fits, hands}
 use Rattle.walks.proofs.Walk.{meets}
 use Rattle.planner.proofs.Coded.{word, row}
@@ -154,7 +154,7 @@ module _ {M : Type 1} (𝓤 : URA M) (H : Heap 𝓤) (A : Atoms 𝓤) (W : Given
           elem-put ! R.the-row fullShare ys i (c .row) (vals (c .row)) (x .ptr .0) (x .ptr .1) low $ closes-slice ! tt R.the-row ys zs same (x .ptr .0) (x .ptr .1) $
           -- [obs; the borrow; the token; true; board's fact; what change owns; the locals]
           gets ! (at 6 (the .answer)) refl (of-opd ! (member ! (at 6 (the .change)) 2 {d = answerPlace} refl refl refl)) (answer-typed W (c .answer) (fields .1 .1 .0)) $
-          returns ! (look ! (at 6 (the .answer)) refl) $ frees ! 6 (full (full (full (full (full (full none)))))) $ keep ! (0 ∷ 1 ∷ 2 ∷ 5 ∷ []) $ by ! (exits room (fields .1 .1 .0))))
+          returns ! (look ! (at 6 (the .answer)) refl) $ frees ! 6 (search letting depth 40) $ keep ! (0 ∷ 1 ∷ 2 ∷ 5 ∷ []) $ by ! (exits room (fields .1 .1 .0))))
 
   applies : (𝓣 : Tables 𝓤 H) → Meets 𝓤 H A apply.signature (WpFn 𝓤 H (𝓣 .C) (𝓣 .Λ) (applying o)) (apply.spec 𝓤 H A mem run)
   applies 𝓣 =

@@ -25,8 +25,8 @@ unfolding code.routine tablesOf
 planner-admit-spec 𝓤 H 𝓜 𝓖 𝓡 =
     entered 𝓤 H (tripleOf 𝓤 H (𝓖 .A) admit.signature (admit.spec 𝓤 H (𝓖 .A) (𝓜 .mem) (𝓡 .run)))
     (tables 𝓤 H 𝓜 𝓡 code.env .C) (tables 𝓤 H 𝓜 𝓡 code.env .Λ) #planner-admit code.function (code.unfolded 𝓤 H 𝓜 𝓡)
-    (admits 𝓤 H (𝓖 .A) (givenOf 𝓤 H 𝓜 𝓖) (𝓜 .mem) (𝓡 .run) #admission _ tt admission (λ bytes words rows r ws zs. AdmitAllows bytes words rows (record { answer = r; lent = record { words = ws; rows = zs } }))
-    (λ bytes words rows. refl) admit-none _ refl (tablesOf 𝓤 H 𝓜 (tables 𝓤 H 𝓜 𝓡 code.env))
+    (admits 𝓤 H (𝓖 .A) (givenOf 𝓤 H 𝓜 𝓖) (𝓜 .mem) (𝓡 .run) #admission _ (refl, refl) _ tt _ (refl, refl) admission (λ bytes words rows n r ws zs. AdmitAllows bytes words rows n (record { answer = r; lent = record { words = ws; rows = zs } }))
+    (λ bytes words rows n. refl) admit-none _ refl (tablesOf 𝓤 H 𝓜 (tables 𝓤 H 𝓜 𝓡 code.env))
     (rows-of-known 𝓤 H 𝓜 𝓖 𝓡 code.env code.calls-planner·rows-of)
     (cited 𝓤 H (Decides 𝓤 H (𝓖 .A) admission) 𝓜 𝓡 code.env #admission admission-def.routine code.calls-admissions·admission (admission-thm.met 𝓤 H 𝓜 𝓖 𝓡))
     (apply-known 𝓤 H 𝓜 𝓖 𝓡 code.env code.calls-planner·apply)

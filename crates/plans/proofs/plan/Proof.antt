@@ -1,33 +1,25 @@
--- `plans::plan` meets its contract: 16 first, then the reading's refusal, then the table that was read, which planning can take.
+-- `plans::plan` meets its contract: 26 and 16 first, then the reading's refusal, then the table that was read, which planning can take.
 use mathlib.Core.Path.{_≡_, sym, ap, _∙_}
 use borrow.Author.Needs.{needs}
 use denote.Ref.{now}
+use lib.ListN.{length}
 use Rattle.refusals.specs.Answer.{answerOf}
 use Rattle.refusals.specs.declared.Outcome.the-variants.{Accepted}
-use Rattle.tables.specs.Inner.Plannable.{Plannable}
-use Rattle.tables.proofs.Plannable.{plannable}
+use Rattle.tables.specs.Cost.{costed}
 use Rattle.records.specs.declared.Reading.{Reading}
 use Rattle.records.specs.Reading.{readingOf}
-use Rattle.records.proofs.Answers.{accepted-table}
-use Rattle.plans.specs.Calls.{unplanned, planned, onTable}
-use Rattle.plans.proofs.Tests.{few, enough, task-refused, task-read}
+use Rattle.plans.specs.Calls.{beforeReading, unplanned, planned, onTable}
+use Rattle.plans.proofs.Table.{read-plannable}
+use Rattle.plans.proofs.Tests.{plan-refused, plan-read, ready, task-refused, task-read}
 use Rattle.plans.proofs.plan.Statement.{statement}
 use Rattle.plans.proofs.plan.Tie as tie
 
-of-requires : tie.Need-of-requires
-of-requires c κs = search needs
+-- what was handed in
+abbrev start : tie.After-before-reading → tie.Start
+start c = c .before .before .before
 
-refused-requires : tie.Need-refused-requires
-refused-requires c κs = search needs
-
-returns : tie.Need-returns
-returns c =
-    let test = c .before .before in
-    let a = test .before .before .before .args in
-    rw (c .refused .ensures, c .before .of .ensures) (sym (few (now (a .bytes)) (now (a .words)) (test .if1 .taken)))
-
-read-record-requires : tie.Need-read-record-requires
-read-record-requires c κs = search needs
+before-reading-requires : tie.Need-before-reading-requires
+before-reading-requires c κs = search needs
 
 enum-told : tie.Need-enum-told
 enum-told c = search needs
@@ -38,26 +30,53 @@ enum-told-2 c = search needs
 answer-of-requires : tie.Need-answer-of-requires
 answer-of-requires c κs = search needs
 
+returns : tie.Need-returns
+returns c =
+    let b = c .before .before .before in
+    let a = start b .args in
+    let told = c .before .enum-told2 .given .1 in
+    rw (c .answer-of .ensures ∙ ap answerOf told) (sym (plan-refused (now (a .bytes)) (now (a .words)) (a .cost) (sym (b .before-reading .ensures) ∙ told)))
+
+read-record-requires : tie.Need-read-record-requires
+read-record-requires c κs = search needs
+
+-- neither 26 nor 16
+first : (c : tie.After-enum-told) → (let a = start (c .before .before) .args in beforeReading (length (now (a .words))) (a .cost) ≡ Accepted)
+first c = sym (c .before .before .before-reading .ensures) ∙ c .enum-told .given .1
+
+enum-told-3 : tie.Need-enum-told-3
+enum-told-3 c = search needs
+
+enum-told-4 : tie.Need-enum-told-4
+enum-told-4 c = search needs
+
+answer-of-requires-2 : tie.Need-answer-of-requires-2
+answer-of-requires-2 c κs = search needs
+
 returns-2 : tie.Need-returns-2
 returns-2 c =
     let d = c .before .before .before in
-    let a = d .before .before .before .before .args in
-    let told = c .before .enum-told2 .given .1 in
+    let a = start (d .before .before .before) .args in
+    let told = c .before .enum-told4 .given .1 in
     let read = ap (λ (r : Reading). r .outcome) (sym (d .read-record .ensures)) ∙ told in
-    rw (c .answer-of .ensures ∙ ap answerOf told) (sym (enough (now (a .bytes)) (now (a .words)) (d .before .if1 .left) ∙ task-refused (unplanned (now (a .words))) (planned (now (a .words))) (now (a .bytes)) read))
+    rw (c .answer-of2 .ensures ∙ ap answerOf told) (sym (plan-read (now (a .bytes)) (now (a .words)) (a .cost) (first (d .before)) ∙ task-refused (unplanned (now (a .words))) (planned (now (a .words))) (now (a .bytes)) (a .cost) read))
 
 -- a table that was read
-read : (c : tie.After-enum-told) → readingOf (now (c .before .before .before .before .before .before .args .bytes)) .outcome ≡ Accepted
-read c = ap (λ (r : Reading). r .outcome) (sym (c .before .before .read-record .ensures)) ∙ c .enum-told .given .1
+abbrev reading : tie.After-enum-told3 → tie.After-read-record
+reading c = c .before .before
 
-range : (c : tie.After-enum-told) → Plannable (c .before .before .read-record .result .table)
-range c = rw (c .before .before .read-record .ensures) (plannable (accepted-table (now (c .before .before .before .before .before .before .args .bytes)) (read c)))
+read : (c : tie.After-enum-told3) → readingOf (now (start (reading c .before .before .before) .args .bytes)) .outcome ≡ Accepted
+read c = ap (λ (r : Reading). r .outcome) (sym (reading c .read-record .ensures)) ∙ c .enum-told3 .given .1
 
 accepted-requires : tie.Need-accepted-requires
 accepted-requires c κs = search needs
 
 plan-table-requires : tie.Need-plan-table-requires
-plan-table-requires c κs = (range (c .before .before), c .before .before .before .before .before .if1 .left)
+plan-table-requires c κs =
+    let t = c .before .before in
+    let a = start (reading t .before .before .before) .args in
+    let allowed = ready (length (now (a .words))) (a .cost) (first (reading t .before)) in
+    (read-plannable (now (a .bytes)) (reading t .read-record .ensures) (read t) (allowed .0), allowed .1)
 
 same-length : tie.Need-same-length
 same-length c = search needs
@@ -66,23 +85,25 @@ returns-3 : tie.Need-returns-3
 returns-3 c =
     let p = c .before .before .before in
     let t = p .before .before .before in
-    let d = t .before .before in
-    let a = d .before .before .before .before .args in
-    let e = enough (now (a .bytes)) (now (a .words)) (d .before .if1 .left) ∙ task-read (unplanned (now (a .words))) (planned (now (a .words))) (now (a .bytes)) (read t) in
-    let s = ap (λ (r : Reading). onTable (unplanned (now (a .words))) (planned (now (a .words))) (r .table)) (d .read-record .ensures) ∙ sym e in
+    let d = reading t in
+    let a = start (d .before .before .before) .args in
+    let e = plan-read (now (a .bytes)) (now (a .words)) (a .cost) (first (d .before)) ∙ task-read (unplanned (now (a .words))) (planned (now (a .words))) (now (a .bytes)) (a .cost) (read t) in
+    let s = ap (λ (r : Reading). onTable (unplanned (now (a .words))) (planned (now (a .words))) (costed (r .table) (a .cost))) (d .read-record .ensures) ∙ sym e in
     (rw (p .before .accepted .ensures) at (p .plan-table .ensures .0)) ∙ s
 
 pub plan-spec : {M : Type 1} → statement M
 plan-spec =
     tie.close
     (tie.spec
-    of-requires
-    refused-requires
-    returns
-    read-record-requires
+    before-reading-requires
     enum-told
     enum-told-2
     answer-of-requires
+    returns
+    read-record-requires
+    enum-told-3
+    enum-told-4
+    answer-of-requires-2
     returns-2
     accepted-requires
     plan-table-requires

@@ -1,17 +1,21 @@
--- `plans::plan_table` meets its contract: the run tells the loop and the path, so the tests are those of the table; a refusal goes out with the
+-- `plans::plan_table` meets its contract: the executions that are run have their cost; the run tells the loop and the path, so the tests are those of the table; a refusal goes out with the
 -- words untouched, and else the run is the table's, and its plan is written.
-use mathlib.Core.Path.{_≡_, refl, sym, _∙_}
+use mathlib.Core.Path.{_≡_, refl, sym, ap, _∙_}
 use mathlib.Core.Bool.{false}
-use mathlib.Core.List.{_++_}
+use mathlib.Core.List.{List, _++_}
 use Prim.Native.Nat.{ℕ, _+_, _*_, _^_, _≤_}
 use native.Mathlib.Omega.{arith}
 use borrow.Author.Needs.{needs}
 use denote.Ref.{now}
 use lib.Dec.{ltb}
 use lib.ListN.{drop}
+use Rattle.plain.specs.At.{at}
 use Rattle.tables.specs.declared.TaskTable.{TaskTable}
-use Rattle.tables.specs.Inner.Limits.{runMax}
+use Rattle.tables.specs.Cost.{costed}
+use Rattle.tables.proofs.Cost.{at-cost, cost-none}
 use Rattle.ways.specs.Closure.{loops}
+use Rattle.ways.specs.Totals.{workOf}
+use Rattle.diagrams.specs.Inner.Traced.{Traced}
 use Rattle.plans.specs.Diagram.{path, segmentCount}
 use Rattle.plans.specs.Words.{frontWords}
 use Rattle.plans.specs.Calls.{loopIn}
@@ -24,24 +28,37 @@ use Rattle.plans.proofs.Tests.{on-fits, later-accepts, tested-so, teste
 use Rattle.plans.proofs.plan_table.Statement.{statement}
 use Rattle.plans.proofs.plan_table.Tie as tie
 
--- what was handed in
-abbrev handed : tie.After-execution2 → tie.Start
-handed c = c .before .before .before .before .before .before .before .before .before .before
+-- where the cost was added, and what was handed in
+abbrev charged : tie.After-sweep → tie.After-add-cost
+charged c = c .before .before .before .before .before .before .before .before
 
+abbrev handed : tie.After-add-cost → tie.Start
+handed c = c .before .before .before .before .before
+
+-- the table with its cost
 abbrev table : tie.After-sweep → TaskTable
-table c = handed (c .before) .args .table
+table c = let a = handed (charged c) .args in costed (a .table) (a .cost)
 
--- an execution is small enough for any sum of finishes
-light : {x : ℕ} → x ≤ runMax → x ≤ 2 ^ 57
-light h = omega arith
+add-cost-requires : tie.Need-add-cost-requires
+add-cost-requires c κs =
+    let s = c .before .before .before .before in
+    let a = s .args in
+    let r = s .pre .0 in
+    let paid = at-cost (a .table .execution) (a .cost) in
+    (r .count-high, λ v. rw (paid v) at (r .run-high v), λ v h. cost-none (a .cost) _ (sym (paid v) ∙ r .run-past v h))
+
+-- an execution with its cost is small enough for any sum of finishes
+light : (c : tie.After-add-cost) (v : ℕ) → at (c .add-cost .last .0) v ≤ 2 ^ 57
+light c v = rw (c .add-cost .ensures) (let high = handed c .pre .0 .run-high v in omega arith)
 
 sweep-requires : tie.Need-sweep-requires
 sweep-requires c κs =
-    let r = handed c .pre .0 in
+    let a = c .before .before .before .before .before .before .before in
+    let r = handed a .pre .0 in
     record {
       fits = r .count-high;
       tidy = tidy r;
-      light = λ v. light (r .run-high v);
+      light = light a;
       counts = refl;
       enders = refl;
       ends = refl;
@@ -49,33 +66,38 @@ sweep-requires c κs =
       lasts = refl;
     }
 
+-- the run is the table's
+traced : (c : tie.After-sweep) → (let t = table c in let r = c .sweep .result in let l = c .sweep .last in
+    Traced (t .parents) (t .execution) (t .count) (r .done) (r .cut .number) (r .cut .time) (l .0) (l .1 .0) (l .1 .1 .0) (l .1 .1 .1 .0) (l .1 .1 .1 .1 .0))
+traced c = rw (charged c .add-cost .ensures) at (c .sweep .ensures)
+
 tested-requires : tie.Need-tested-requires
-tested-requires c κs = let r = handed (c .before .before) .pre .0 in (r .count-high, tidy r, c .before .sweep .ensures .told)
+tested-requires c κs = let r = handed (charged (c .before)) .pre .0 in (r .count-high, tidy r, traced (c .before) .told)
 
 -- the run that the tests look at
 abbrev ran : tie.After-tested → tie.After-sweep
 ran c = c .before .before
 
 -- they are the table's own
-answered : (c : tie.After-tested) → (let t = table (ran c) in c .tested .result ≡ tested (loops (t .parents) (t .count)) (loopIn t) (ltb (t .period) (path t)) (handed (ran c .before) .args .later))
+answered : (c : tie.After-tested) → (let t = table (ran c) in c .tested .result ≡ tested (loops (t .parents) (t .count)) (loopIn t) (ltb (t .period) (path t)) (handed (charged (ran c)) .args .later))
 answered c =
-    let s = ran c .sweep .ensures in
+    let s = traced (ran c) in
     c .tested .ensures ∙ tested-so (table (ran c)) _ _ _ (s .told) (λ l. s .cut-up l .path-is ∙ sym (path-latest (table (ran c))))
 
 returns : tie.Need-returns
 returns c =
     let q = c .before .before in
-    (tested-out (table (ran q)) _ (answered q) (now (handed (ran q .before) .args .words)) (c .if1 .taken), λ z. absurd (c .if1 .taken z))
+    (tested-out (table (ran q)) _ (answered q) (now (handed (charged (ran q)) .args .words)) (c .if1 .taken), λ z. absurd (c .if1 .taken z))
 
 -- ---- no refusal: the table has a plan, and the run is cut up as it
-passed : (c : tie.Else1) → (let t = table (ran (c .before .before)) in (loops (t .parents) (t .count) ≡ false) × (path t ≤ t .period) × (handed (ran (c .before .before) .before) .args .later .refusal ≡ 0))
+passed : (c : tie.Else1) → (let t = table (ran (c .before .before)) in (loops (t .parents) (t .count) ≡ false) × (path t ≤ t .period) × (handed (charged (ran (c .before .before))) .args .later .refusal ≡ 0))
 passed c = let q = c .before .before in tested-in (table (ran q)) _ (answered q) (c .if1 .left)
 
 planned : (c : tie.Else1) → Planned (table (ran (c .before .before)))
-planned c = record { range = handed (ran (c .before .before) .before) .pre .0; free = passed c .0; fits = passed c .1 }
+planned c = record { range = handed (charged (ran (c .before .before))) .pre .0; free = passed c .0; fits = passed c .1 }
 
 work-of-requires : tie.Need-work-of-requires
-work-of-requires c κs = let r = handed (ran (c .before .before .before) .before) .pre .0 in (r .count-high, λ v. light (r .run-high v))
+work-of-requires c κs = let a = charged (ran (c .before .before .before)) in (handed a .pre .0 .count-high, light a)
 
 -- where the tests were passed
 abbrev past : tie.After-work-of → tie.Else1
@@ -86,37 +108,39 @@ segments-of c = record {
   table = planned (past c);
   count = refl;
   period = refl;
-  work = c .work-of .ensures;
-  cut-up = ran (past c .before .before) .sweep .ensures .cut-up (passed (past c) .0);
+  work = let r = ran (past c .before .before) in c .work-of .ensures ∙ ap (λ (X : List ℕ). workOf X (table r .count)) (charged r .add-cost .ensures);
+  cut-up = traced (ran (past c .before .before)) .cut-up (passed (past c) .0);
 }
 
 write-segments-requires : tie.Need-write-segments-requires
-write-segments-requires c κs = let w = c .before .before .before .before in ((_, segments-of w), handed (ran (past w .before .before) .before) .pre .1)
+write-segments-requires c κs = let w = c .before .before .before .before in ((_, segments-of w), handed (charged (ran (past w .before .before))) .pre .1)
 
 -- the call before, and the words once the front is written
 abbrev worked : tie.After-write-segments → tie.After-work-of
 worked c = c .before .before .before .before .before
 
-front : (c : tie.After-write-segments) → (let r = ran (past (worked c) .before .before) in c .write-segments .last .0 ≡ frontWords (table r) ++ drop (3 + 3 * segmentCount (table r)) (now (handed (r .before) .args .words)))
+front : (c : tie.After-write-segments) → (let r = ran (past (worked c) .before .before) in c .write-segments .last .0 ≡ frontWords (table r) ++ drop (3 + 3 * segmentCount (table r)) (now (handed (charged r) .args .words)))
 front c = c .write-segments .ensures _ (segments-of (worked c))
 
-nodes-of : (c : tie.After-write-segments) → (let r = ran (past (worked c) .before .before) in let t = table r in NodesOf t (t .count) (r .sweep .last .1 .1 .1 .0) (r .sweep .last .1 .1 .1 .1 .0) (t .execution) (c .write-segments .last .0))
+nodes-of : (c : tie.After-write-segments) → (let r = ran (past (worked c) .before .before) in let t = table r in NodesOf t (t .count) (r .sweep .last .1 .1 .1 .0) (r .sweep .last .1 .1 .1 .1 .0) (charged r .add-cost .last .0) (c .write-segments .last .0))
 nodes-of c =
     let p = past (worked c) in
     let r = ran (p .before .before) in
     let kept = c .write-segments .kept .0 in
-    let room = handed (r .before) .pre .1 in
+    let room = handed (charged r) .pre .1 in
     record {
       table = planned p;
       count = refl;
-      spanned = r .sweep .ensures .spanned (passed p .0);
-      executions = refl;
+      spanned = traced r .spanned (passed p .0);
+      executions = charged r .add-cost .ensures;
       room = omega arith;
-      front = front-back (table r) (now (handed (r .before) .args .words)) (front c);
+      front = front-back (table r) (now (handed (charged r) .args .words)) (front c);
     }
 
 write-nodes-requires : tie.Need-write-nodes-requires
-write-nodes-requires c κs = (_, nodes-of (c .before .before .before .before .before .before))
+write-nodes-requires c κs =
+    let n = nodes-of (c .before .before .before .before .before .before) in
+    (_, record { table = n .table; count = n .count; spanned = n .spanned; executions = n .executions; room = n .room; front = n .front })
 
 accepted-requires : tie.Need-accepted-requires
 accepted-requires c κs = search needs
@@ -130,7 +154,7 @@ returns-2 c =
     let w = n .before .before .before .before .before .before .before in
     let p = past (worked w) in
     let t = table (ran (p .before .before)) in
-    let a = handed (ran (p .before .before) .before) .args in
+    let a = handed (charged (ran (p .before .before))) .args in
     let wrote = n .write-nodes .ensures _ (nodes-of w) in (
       rw (c .accepted .ensures, wrote .0, wrote .1 ∙ past-front t (now (a .words)) (front w))
           (sym (on-fits _ _ t (passed p .0) (passed p .1) ∙ later-accepts (a .later) (now (a .words)) t (passed p .2))),
@@ -141,6 +165,7 @@ pub plan-table-spec : {M : Type 1} → statement M
 plan-table-spec =
     tie.close
     (tie.spec
+    add-cost-requires
     sweep-requires
     tested-requires
     returns

@@ -4,8 +4,7 @@ use Prim.Native.Nat.{ℕ, _+_, _*_, _^_, _≤_, _<_}
 use lib.ListN.{length}
 use Rattle.plain.specs.At.{at}
 use Rattle.plain.specs.Sums.{sumTo}
-use Rattle.tables.specs.Limits.{periodMax, countMax}
-use Rattle.tables.specs.Inner.Limits.{runMax, workMax, overMax}
+use Rattle.tables.specs.Limits.{periodMax, countMax, runMax, workMax, overMax}
 use Rattle.shares.specs.declared.Deal.{Deal}
 use Rattle.shares.specs.Inner.Words.{threadsAt, lengthAt, numeratorAt}
 use Rattle.shares.specs.Inner.Spans.{offsetBy, spanBy}

@@ -7,13 +7,15 @@ use native.Mathlib.Omega.{arith}
 use borrow.Author.Needs.{needs}
 use Rattle.refusals.specs.Answer.{accepted}
 use Rattle.refusals.specs.After.{After}
+use Rattle.tables.specs.declared.TaskTable.{TaskTable}
+use Rattle.tables.specs.Cost.{costed}
 use Rattle.plans.specs.Calls.{unplanned, planned}
 use Rattle.plans.specs.Words.{wordsMax, written}
 use Rattle.plans.specs.Inner.Drawn.{Totalled}
 use Rattle.plans.specs.Inner.Table.{tablePlan}
 use Rattle.plans.proofs.Tests.{on-fits}
 use Rattle.sheets.specs.Lines.{refusedLine}
-use Rattle.sheets.specs.Printed.{tableSheet}
+use Rattle.sheets.specs.Printed.{tableSheet, sheetCost}
 use Rattle.sheets.proofs.Printing.{wrote-same, refused-line, printable}
 use Rattle.sheets.proofs.put_table.Statement.{statement}
 use Rattle.sheets.proofs.put_table.Tie as tie
@@ -22,8 +24,12 @@ use Rattle.sheets.proofs.put_table.Tie as tie
 abbrev zeros : List ℕ
 zeros = replicate wordsMax 0
 
+-- the table that is planned
+abbrev table : tie.After-plan-table → TaskTable
+table c = costed (c .before .before .before .before .args .table) sheetCost
+
 -- no later rule refuses, so that planning is the plain call
-plans : (c : tie.After-plan-table) → record { answer = c .plan-table .result .answer; lent = c .plan-table .last .0 } ≡ tablePlan (accepted 0) zeros (c .before .before .before .before .args .table)
+plans : (c : tie.After-plan-table) → record { answer = c .plan-table .result .answer; lent = c .plan-table .last .0 } ≡ tablePlan (accepted 0) zeros (table c)
 plans c = rw (c .before .accepted .ensures) at (c .plan-table .ensures .0)
 
 returns : tie.Need-returns
@@ -32,7 +38,7 @@ returns c =
     let n = r .before .before .before in
     let p = n .before .before .before .before in
     let answered = ap (λ (x : After (List ℕ)). x .answer) (plans p) in
-    wrote-same (ap refusedLine (r .before .told-by .ensures) ∙ refused-line zeros (p .before .before .before .before .args .table) answered (n .if1 .taken)) (r .put-refusal .ensures)
+    wrote-same (ap refusedLine (r .before .told-by .ensures) ∙ refused-line zeros (table p) answered (n .if1 .taken)) (r .put-refusal .ensures)
 
 slice-aggregate-plan-table : tie.Need-slice-aggregate-plan-table
 slice-aggregate-plan-table c = search needs
@@ -53,13 +59,13 @@ same-length : tie.Need-same-length
 same-length c = search needs
 
 -- past the test the table is accepted, and its plan stands in the words
-totals : (c : tie.Else1) → (let p = c .before .before .before .before in Totalled (p .before .before .before .before .args .table) (p .plan-table .result))
+totals : (c : tie.Else1) → (let p = c .before .before .before .before in Totalled (table p) (p .plan-table .result))
 totals c = c .before .before .before .before .plan-table .ensures .1 (c .if1 .left)
 
-words : (c : tie.Else1) → (let p = c .before .before .before .before in p .plan-table .last .0 ≡ written (p .before .before .before .before .args .table) zeros)
+words : (c : tie.Else1) → (let p = c .before .before .before .before in p .plan-table .last .0 ≡ written (table p) zeros)
 words c =
     let p = c .before .before .before .before in
-    ap (λ (x : After (List ℕ)). x .lent) (plans p ∙ on-fits (unplanned zeros) (planned zeros) (p .before .before .before .before .args .table) (totals c .table .free) (totals c .table .fits))
+    ap (λ (x : After (List ℕ)). x .lent) (plans p ∙ on-fits (unplanned zeros) (planned zeros) (table p) (totals c .table .free) (totals c .table .fits))
 
 slice-aggregate-put-sheet : tie.Need-slice-aggregate-put-sheet
 slice-aggregate-put-sheet c = search needs
@@ -76,9 +82,8 @@ returns-2 : tie.Need-returns-2
 returns-2 c =
     let p = c .before .before in
     let e = p .before .before .before in
-    let a = e .before .before .before .before .before .before .before .before .args in
     wrote-same
-    (rw (totals e .work, totals e .path, words e) (sym (on-fits refusedLine tableSheet (a .table) (totals e .table .free) (totals e .table .fits))))
+    (rw (totals e .work, totals e .path, words e) (sym (on-fits refusedLine tableSheet (table (e .before .before .before .before)) (totals e .table .free) (totals e .table .fits))))
     (p .put-sheet .ensures)
 
 pub put-table-spec : {M : Type 1} → statement M

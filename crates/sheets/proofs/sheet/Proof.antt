@@ -4,14 +4,14 @@ use native.Mathlib.Omega.{arith}
 use borrow.Author.Needs.{needs}
 use denote.Ref.{now}
 use Rattle.refusals.specs.declared.Outcome.the-variants.{Accepted}
-use Rattle.tables.proofs.Plannable.{plannable}
+use Rattle.tables.specs.Cost.{costed}
 use Rattle.records.specs.declared.Reading.{Reading}
 use Rattle.records.specs.Reading.{readingOf}
-use Rattle.records.proofs.Answers.{accepted-table}
 use Rattle.plans.specs.Calls.{onTable}
+use Rattle.plans.proofs.Table.{read-plannable}
 use Rattle.plans.proofs.Tests.{task-refused, task-read}
 use Rattle.sheets.specs.Lines.{refusedLine}
-use Rattle.sheets.specs.Printed.{tableSheet, sheetOf}
+use Rattle.sheets.specs.Printed.{tableSheet, sheetCost, sheetOf}
 use Rattle.sheets.proofs.Printing.{wrote-same, prints, leaves}
 use Rattle.sheets.proofs.sheet.Statement.{statement}
 use Rattle.sheets.proofs.sheet.Tie as tie
@@ -38,7 +38,7 @@ returns-2 c =
     let d = told .before .before in
     let a = d .before .before .before .before .args in
     let read = ap (λ (r : Reading). r .outcome) (sym (d .read-record .ensures)) ∙ told .outcome .given .1 in
-    prints (sheetOf (now (a .bytes))) (now (a .out)) (d .before .if1 .left) (wrote-same (sym (task-refused refusedLine tableSheet (now (a .bytes)) read)) (p .put-refusal .ensures))
+    prints (sheetOf (now (a .bytes))) (now (a .out)) (d .before .if1 .left) (wrote-same (sym (task-refused refusedLine tableSheet (now (a .bytes)) sheetCost read)) (p .put-refusal .ensures))
 
 -- a table that was read
 read : (c : tie.After-enum-told) → readingOf (now (c .before .before .before .before .before .before .args .bytes)) .outcome ≡ Accepted
@@ -50,7 +50,7 @@ enum-told c = search needs
 put-table-requires : tie.Need-put-table-requires
 put-table-requires c κs =
     let d = c .before .before .before in
-    (d .before .if1 .left, rw (d .read-record .ensures) (plannable (accepted-table (now (d .before .before .before .before .args .bytes)) (read (c .before)))))
+    (d .before .if1 .left, read-plannable (now (d .before .before .before .before .args .bytes)) (d .read-record .ensures) (read (c .before)) (omega arith))
 
 same-length-2 : tie.Need-same-length-2
 same-length-2 c = search needs
@@ -61,7 +61,7 @@ returns-3 c =
     let e = p .before .before in
     let d = e .before .before in
     let a = d .before .before .before .before .args in
-    let text = ap (λ (r : Reading). onTable refusedLine tableSheet (r .table)) (d .read-record .ensures) ∙ sym (task-read refusedLine tableSheet (now (a .bytes)) (read e)) in
+    let text = ap (λ (r : Reading). onTable refusedLine tableSheet (costed (r .table) sheetCost)) (d .read-record .ensures) ∙ sym (task-read refusedLine tableSheet (now (a .bytes)) sheetCost (read e)) in
     prints (sheetOf (now (a .bytes))) (now (a .out)) (d .before .if1 .left) (wrote-same text (p .put-table .ensures))
 
 pub sheet-spec : {M : Type 1} → statement M
