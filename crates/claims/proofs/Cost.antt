@@ -18,7 +18,7 @@ use Rattle.refusals.specs.declared.Outcome.the-variants.{Accepted, Refused}
 use Rattle.refusals.specs.Refusal.{refusal, onOutcome}
 use Rattle.tables.specs.declared.TaskTable.{TaskTable}
 use Rattle.tables.specs.Cost.{withCost, costed}
-use Rattle.tables.proofs.Cost.{at-cost, cost-runs, with-cost, costed-0}
+use Rattle.tables.proofs.Cost.{at-cost, cost-runs, cost-cases, costed-0}
 use Rattle.records.specs.Reading.{readingOf}
 use Rattle.ways.specs.Totals.{workOf}
 use Rattle.ways.proofs.Totals.{work-le}
@@ -35,7 +35,7 @@ use Rattle.claims.specs.Cost.{runners, onRecord, oldPlan, oldAdmission, 
 -- who runs pays once, and who doesn't pays nothing
 paid : (cost written : ℕ) → withCost cost written ≡ written + upTo 1 written * cost
 unfolding upTo
-paid cost = with-cost cost (λ w x. x ≡ w + upTo 1 w * cost) (omega arith) (λ w r. rw (le-leb 1 w r) (omega arith))
+paid cost = cost-cases cost (λ w x. x ≡ w + upTo 1 w * cost) (omega arith) (λ w r. rw (le-leb 1 w r) (omega arith))
 
 -- so the work grows by the cost of each node that runs
 once : (t : TaskTable) (cost : ℕ) → work (costed t cost) ≡ work t + runners t * cost

@@ -61,5 +61,5 @@ pub record OfCost : Type 0 where
   pub free-table : (t : TaskTable) → costed t 0 ≡ t
   pub free-plan : (bytes words : List ℕ) → planCall bytes words 0 ≡ oldPlan bytes words
   pub free-admission : (bytes words : List ℕ) (rows : List Row) → admission bytes words rows 0 ≡ oldAdmission bytes words rows
-  -- what a later limit rests on
+  -- the limits that the request names, of every task that is accepted
   pub limits : (t : TaskTable) → Accepted t → Limited t

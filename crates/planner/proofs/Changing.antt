@@ -59,7 +59,7 @@ use Rattle.walks.proofs.Walk.{meets}
 use Rattle.planner.proofs.Coded.{word, row, shared, again, refusing, tested, headed, measured}
 use Rattle.planner.proofs.NoBoard.{NoBoard, unsoundAnswer}
 use Rattle.planner.proofs.Rows.{RowsOf, Apply, Unsound, lends-rows, writes-row, refuses}
-use Rattle.planner.proofs.Values.{board-typed, change-typed, answer-typed, board-makes, answer-makes}
+use Rattle.planner.proofs.Values.{pairVals, pairArgs, board-typed, change-typed, answer-typed, board-makes, answer-makes}
 use Rattle.planner.proofs.rows_of.Symbol.{name as #rows-of}
 use Rattle.planner.proofs.apply.Symbol.{name as #apply}
 use Rattle.planner.proofs.planner_withdraw as withdraw
@@ -122,23 +122,16 @@ module _ {M : Type 1} (𝓤 : URA M) (H : Heap 𝓤) (A : Atoms 𝓤) (W : Given
     abbrev s : Val
     s = sliceVal (x .ptr) (length rows)
 
-    abbrev vals : List Val × (List Val × Unit {0})
-    vals = (s ∷ [], (vint w64 n ∷ [], tt))
-
-    -- the arguments
-    abbrev args : List Val
-    args = s ∷ vint w64 n ∷ []
-
     abbrev lent : Item 𝓤
     lent = ‵ (MutSlice (named 0) κ R.the-row .own x (s ∷ []))
 
     abbrev Post : Val → SProp 𝓤
-    Post = walkOf 𝓤 H A withdraw.ended stayed (promising 𝓤 φ) .post (((κ, tt), (q, tt), tt, a, vals), tt)
+    Post = walkOf 𝓤 H A withdraw.ended stayed (promising 𝓤 φ) .post (((κ, tt), (q, tt), tt, a, (pairVals s n)), tt)
 
     exits : (r : Answer) (w : Val) (zs : List Row) → Is An.the-row r (w ∷ []) → φ rows n r zs → length zs ≡ length rows → ent 𝓤 (⋆ 𝓤 H A (‵ (finally R.the-row (x .name) zs) ∷ ‵ (flft κ q) ∷ [])) (Post w)
     exits r w zs is e same =
         qed W (‵ (finally R.the-row (x .name) zs) ∷ ‵ (flft κ q) ∷ []) ∵
-        suffices ! _ (ends-at 𝓤 H A withdraw.ended stayed (promising 𝓤 φ) W (((κ, tt), (q, tt), tt, a, vals), tt) w r (zs, (tt, tt)) (same, (tt, tt))) $ says ! e $
+        suffices ! _ (ends-at 𝓤 H A withdraw.ended stayed (promising 𝓤 φ) W (((κ, tt), (q, tt), tt, a, (pairVals s n)), tt) w r (zs, (tt, tt)) (same, (tt, tt))) $ says ! e $
         nothing ! $ move ! (2 ∷ 0 ∷ []) $ join ! $ frame ! $ nothing ! $ owned ! u64 (Is u64) (uint-makes 𝓤 H A W w64) n _ (refl, fits) $ fjoin ! $ move ! (1 ∷ 0 ∷ []) $ fjoin ! $ frame ! $
         owned ! An.the-row (Is An.the-row) (answer-makes 𝓤 H A) r _ is $ done !
 
@@ -150,7 +143,7 @@ module _ {M : Type 1} (𝓤 : URA M) (H : Heap 𝓤) (A : Atoms 𝓤) (W : Given
 
         -- after the test
         abbrev Tested : List (Item 𝓤)
-        Tested = over (measured (the .length) (the .test) rowsMax (length rows) (passes (param 0) args (empties locals l))) (‵ (flft κ q) ∷ lent ∷ [])
+        Tested = over (measured (the .length) (the .test) rowsMax (length rows) (passes (param 0) (pairArgs s n) (empties locals l))) (‵ (flft κ q) ∷ lent ∷ [])
 
         -- there are 16 rows
         goes-on : length rows ≡ rowsMax → Sq W Tested (runs C Λ En (changing f o) (atRet En Post))
@@ -183,9 +176,9 @@ module _ {M : Type 1} (𝓤 : URA M) (H : Heap 𝓤) (A : Atoms 𝓤) (W : Given
         branched : Sq W Tested (runs C Λ En (tested (the .test) refusing (changing f o)) (atRet En Post))
         branched = first ! $ same-or-not ! (length rows) rowsMax (var ! (at 0 (the .test)) refl) stops (λ sixteen. skips ! $ exec ! C Λ En (changing f o) (atRet En Post) $ goes-on sixteen)
 
-      walk : ent 𝓤 (onEntry 𝓤 H A withdraw.signature (κ, tt) (q, tt) a vals) (WpFn 𝓤 H C Λ (code f o rowsMax) args Post)
+      walk : ent 𝓤 (onEntry 𝓤 H A withdraw.signature (κ, tt) (q, tt) a (pairVals s n)) (WpFn 𝓤 H C Λ (code f o rowsMax) (pairArgs s n) Post)
       walk =
-          qed W ((‵ (flft κ q) ⊛ ‵ ftrue) ∷ ‵ (owns (MutSlice (named 0) κ R.the-row ∷ u64 ∷ []) a vals) ∷ []) ∵ split ! $ move ! (2 ∷ []) $ fsplit ! $ keep ! (2 ∷ 0 ∷ []) $ enter ! C Λ (code f o rowsMax) args _ $
+          qed W ((‵ (flft κ q) ⊛ ‵ ftrue) ∷ ‵ (owns (MutSlice (named 0) κ R.the-row ∷ u64 ∷ []) a (pairVals s n)) ∷ []) ∵ split ! $ move ! (2 ∷ []) $ fsplit ! $ keep ! (2 ∷ 0 ∷ []) $ enter ! C Λ (code f o rowsMax) (pairArgs s n) _ $
           allocates ! (λ l. params1 ! $ pass1 ! (init ! (at 0 (the .board)) refl (tt, (tt, (record { fits = room .0 }, tt)))) $ pass1 ! (init ! (at 0 (the .number)) refl (tt, record { fits = fits })) $ pass0 ! $
           gets ! (at 0 (the .length)) refl (of-opd ! (member ! (at 0 (the .board)) 1 refl refl refl)) (tt, record { fits = room .0 }) $ gets ! (at 0 (the .test)) refl (bin ! (var ! (at 0 (the .length)) refl) (lit ! tt) tt) (tt, tt) $ branched l)
 

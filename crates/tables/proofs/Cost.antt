@@ -29,19 +29,19 @@ pub cost-idle : (cost written : ℕ) → written ≡ 0 → 0 ≡ withCost cost w
 cost-idle cost written z = rw z
 
 -- what holds of 0, and of each that runs with its cost, holds of every execution with its cost
-pub with-cost : (cost : ℕ) (P : ℕ → ℕ → Type 0) → P 0 0 → ((written : ℕ) → 1 ≤ written → P written (written + cost)) → (written : ℕ) → P written (withCost cost written)
-with-cost cost P idle runs written = ⊎-elim
+pub cost-cases : (cost : ℕ) (P : ℕ → ℕ → Type 0) → P 0 0 → ((written : ℕ) → 1 ≤ written → P written (written + cost)) → (written : ℕ) → P written (withCost cost written)
+cost-cases cost P idle runs written = ⊎-elim
     (λ (r : 0 < written). rw (cost-runs cost written r) (runs written r))
     (λ (n : written ≤ 0). let z : written ≡ 0 = omega arith in rw z idle)
     (lt-or-ge 0 written)
 
 -- who is 0 with the cost is 0 without
 pub cost-none : (cost written : ℕ) → withCost cost written ≡ 0 → written ≡ 0
-cost-none cost = with-cost cost (λ w x. x ≡ 0 → w ≡ 0) (λ e. refl) (λ w r e. absurd (omega arith))
+cost-none cost = cost-cases cost (λ w x. x ≡ 0 → w ≡ 0) (λ e. refl) (λ w r e. absurd (omega arith))
 
 -- a cost of 0 is none
 no-cost : (written : ℕ) → withCost 0 written ≡ written
-no-cost = with-cost 0 (λ w x. x ≡ w) refl (λ w r. omega arith)
+no-cost = cost-cases 0 (λ w x. x ≡ w) refl (λ w r. omega arith)
 
 -- a table with the cost 0 is the table
 pub costed-0 : (t : TaskTable) → costed t 0 ≡ t
@@ -49,7 +49,7 @@ costed-0 t = ap (λ (X : List ℕ). record { edition = t .edition; id = t .id; p
 
 -- no execution in range is above `runMax` with a cost in range
 cost-high : (cost : ℕ) → cost ≤ costMax → (written : ℕ) → written ≤ executionMax → withCost cost written ≤ runMax
-cost-high cost c = with-cost cost (λ w x. w ≤ executionMax → x ≤ runMax) (λ h. omega arith) (λ w r h. omega arith)
+cost-high cost c = cost-cases cost (λ w x. w ≤ executionMax → x ≤ runMax) (λ h. omega arith) (λ w r h. omega arith)
 
 -- a table in range, with a cost in range
 pub costed-range : {t : TaskTable} {cost : ℕ} → InRange t → cost ≤ costMax → CostedRange (costed t cost)
@@ -70,4 +70,4 @@ plannable {t} w = let t₀ = w .written in let r = w .range in rw (w .is) (recor
 })
   where
     runs : (v : ℕ) → 1 ≤ at (w .written .execution) v → 1 ≤ at (costed (w .written) (w .cost) .execution) v
-    runs v = rw (at-cost (w .written .execution) (w .cost) v) (with-cost (w .cost) (λ x y. 1 ≤ x → 1 ≤ y) (λ h. h) (λ x r h. omega arith) (at (w .written .execution) v))
+    runs v = rw (at-cost (w .written .execution) (w .cost) v) (cost-cases (w .cost) (λ x y. 1 ≤ x → 1 ≤ y) (λ h. h) (λ x r h. omega arith) (at (w .written .execution) v))
