@@ -1,5 +1,5 @@
-/* Plans a task, admits it, asks for the verdict and withdraws it, through planner.h; shows where another goes round,
- * what a unit for a join costs, and what a dispatch cost changes. */
+/* Plans a task, admits it, asks for both verdicts and withdraws it, through planner.h; shows where another goes round,
+ * what a unit for a join costs, what a dispatch cost changes, and what steps that run to their end ask for. */
 #include <inttypes.h>
 #include <stdio.h>
 #include <string.h>
@@ -38,7 +38,18 @@ static const uint8_t join[] = {
     0x05, 0x01, 0x07, 0x04, 0x01, 0x07, 0x03, 0x01, 0x07, /* 8 to 10 */
 };
 
-/* A task's path, and the verdict for four cores where it stands alone. */
+/* Both verdicts: steps may be interrupted, or run to their end. */
+static void ask_both(const struct planner_row *board, uint64_t cores)
+{
+    char call[32];
+
+    snprintf(call, sizeof call, "ask %" PRIu64, cores);
+    show(call, planner_ask(board, PLANNER_ROWS, cores));
+    snprintf(call, sizeof call, "ask %" PRIu64 " to the end", cores);
+    show(call, planner_ask_to_end(board, PLANNER_ROWS, cores));
+}
+
+/* A task's path, and the verdicts for four cores where it stands alone. */
 static void show_alone(const char *name, const uint8_t *record, uint64_t length, uint64_t cost)
 {
     uint64_t words[PLANNER_WORDS] = {0};
@@ -49,7 +60,7 @@ static void show_alone(const char *name, const uint8_t *record, uint64_t length,
     for (uint64_t segment = 0; segment < words[1]; segment++)
         path += words[3 + 3 * segment + 1];
     printf("path %" PRIu64 ", over %" PRIu64 "\n", path, words[0]);
-    show("ask 4 cores", planner_ask(board, PLANNER_ROWS, 4));
+    ask_both(board, 4);
 }
 
 /* unit.task: the same as task 44 in edition 1, with a unit for each of the two. */
@@ -73,6 +84,25 @@ static void show_cost(void)
     show_alone("admit join at cost 3", join, sizeof join, 3);
     show("plan join at cost 16", planner_plan(join, sizeof join, words, PLANNER_WORDS, 16));
     show("plan join at cost 256", planner_plan(join, sizeof join, words, PLANNER_WORDS, 256));
+}
+
+/* Two door drives, 3 units in a period of 12 and 5 in one of 15. Alone the first may run to its end on one core; beside
+ * the second it may wait for 5 units of its 12, and one core is too few. */
+static void show_to_end(void)
+{
+    static const uint8_t first[] = {0x01, 0x01, 0x0C, 0x01, 0x03, 0x00};
+    static const uint8_t second[] = {0x01, 0x02, 0x0F, 0x01, 0x05, 0x00};
+    uint64_t words[PLANNER_WORDS];
+    struct planner_row board[PLANNER_ROWS] = {0};
+
+    show("admit 3 in 12", planner_admit(first, sizeof first, words, PLANNER_WORDS, board, PLANNER_ROWS, 0));
+    ask_both(board, 1);
+    show("admit 5 in 15", planner_admit(second, sizeof second, words, PLANNER_WORDS, board, PLANNER_ROWS, 0));
+    for (unsigned row = 0; row < 2; row++)
+        printf("row %u: longest %" PRIu64 ", shortest %" PRIu64 " over %" PRIu64 "\n", row, board[row].longest,
+               board[row].shortest, board[row].over);
+    ask_both(board, 1);
+    ask_both(board, 2);
 }
 
 int main(void)
@@ -103,13 +133,14 @@ int main(void)
     show("plan tangle", planner_plan(tangle, sizeof tangle, words, PLANNER_WORDS, 0));
     show("admit", planner_admit(record, sizeof record, words, PLANNER_WORDS, board, PLANNER_ROWS, 0));
     show("admit again", planner_admit(record, sizeof record, words, PLANNER_WORDS, board, PLANNER_ROWS, 0));
-    show("ask 1 core", planner_ask(board, PLANNER_ROWS, 1));
-    show("ask 2 cores", planner_ask(board, PLANNER_ROWS, 2));
-    show("ask 0 cores", planner_ask(board, PLANNER_ROWS, 0));
+    ask_both(board, 1);
+    ask_both(board, 2);
+    ask_both(board, 0);
     show("withdraw 3", planner_withdraw(board, PLANNER_ROWS, 3));
     show("withdraw 3 again", planner_withdraw(board, PLANNER_ROWS, 3));
     show_alone("admit join", join, sizeof join, 0);
     show_unit();
     show_cost();
+    show_to_end();
     return 0;
 }

@@ -1,4 +1,4 @@
-/* The planner's four calls. A call returns for every content of what it is lent; a refusal changes nothing. The caller
+/* The planner's five calls. A call returns for every content of what it is lent; a refusal changes nothing. The caller
  * sees to the memory, in each call:
  *   - A length is 64 bits on every machine. It counts bytes of a record, words of a plan, rows of a board.
  *   - Each pointer is not NULL and valid for its length.
@@ -13,7 +13,7 @@
 #include <stdint.h>
 
 /* Goes up with each release that changes a call's parameters or a struct's fields. Version 1 had no such number. */
-#define PLANNER_VERSION 3
+#define PLANNER_VERSION 4
 
 /* The most words that a plan has; a smaller buffer is refused by 16. */
 #define PLANNER_WORDS 387
@@ -39,13 +39,18 @@ struct planner_answer {
 };
 
 /* One row of the board. A free row is all zeros: a board of 16 such rows is empty. sum and largest are the total and
- * the largest of the task's node densities at the cost it was admitted with, in millionths. Only the calls below should
- * write rows. */
+ * the largest of the task's node densities at the cost it was admitted with, in millionths. longest, shortest and over
+ * (since version 4) are, at that cost, its longest execution, its smallest deadline numerator and its Q; nodes with
+ * execution 0 do not count in them. Rows of an older version have to be admitted anew. Only the calls below should write
+ * rows. */
 struct planner_row {
     uint64_t id;
     uint64_t nodes;
     uint64_t sum;
     uint64_t largest;
+    uint64_t longest;
+    uint64_t shortest;
+    uint64_t over;
 };
 
 /* Plans the task of a record into words[0 .. 3 + 3s + 3n - 1]; words past these keep their content.
@@ -69,8 +74,13 @@ struct planner_answer planner_admit(const uint8_t *record, uint64_t record_lengt
 /* Frees the row of the task with this id. value: the row freed. Refusals: 17; 14 (no such task; id 0 never stands). */
 struct planner_answer planner_withdraw(struct planner_row *board, uint64_t board_length, uint64_t id);
 
-/* Whether the standing tasks pass the density test on this number of cores (1 .. 64). value: 1 for yes, 0 for no.
- * Writes nothing. Refusals: 17; 15 (0 cores, or more than 64). */
+/* Whether the standing tasks pass the density test on this number of cores (1 .. 64), where a step may be interrupted.
+ * value: 1 for yes, 0 for no. Writes nothing. Refusals: 17; 15 (0 cores, or more than 64). */
 struct planner_answer planner_ask(const struct planner_row *board, uint64_t board_length, uint64_t cores);
+
+/* Since version 4: the same where a step that has begun runs to its end, as a door drive's does. It is a yes for fewer
+ * boards: each core is also charged the longest execution over the shortest deadline, in millionths rounded up, of all
+ * nodes that stand. Values and refusals as planner_ask. */
+struct planner_answer planner_ask_to_end(const struct planner_row *board, uint64_t board_length, uint64_t cores);
 
 #endif

@@ -2,7 +2,6 @@
 use mathlib.Core.Path.{_≡_, refl}
 use mathlib.Core.Bool.{Bool, true, false}
 use mathlib.Core.List.{List}
-use Prim.Native.Nat.{ℕ}
 use lib.Dec.{ltb}
 use borrow.Author.Tests.{eqb-false}
 use Rattle.plain.specs.Pick.{pick}
@@ -14,10 +13,7 @@ use Rattle.boards.specs.declared.Change.{Change}
 use Rattle.boards.specs.Row.{rowsMax}
 use Rattle.boards.specs.Find.{placeOf, freeAt}
 use Rattle.boards.specs.Change.{unchanged, placed}
-
--- an id without figures, which is enough to find a place with
-abbrev pub idOnly : ℕ → Row
-idOnly id = record { id = id; nodes = 0; sum = 0; largest = 0 }
+use Rattle.admissions.specs.Inner.IdOnly.{idOnly}
 
 module _ (rows : List Row) (row : Row) where
   -- what the two tests of `placed` pick for a row

@@ -30,7 +30,8 @@ use Rattle.boards.specs.Row.{rowsMax}
 use Rattle.boards.specs.Change.{unchanged, placed}
 use Rattle.admissions.specs.Admission.{Admission, rowOf, notAdmitted, entered, admission}
 use Rattle.admissions.specs.Inner.NoBoard.{noBoard}
-use Rattle.admissions.proofs.Place.{idOnly, refused-alike, accepted-alike, refused-unchanged}
+use Rattle.admissions.specs.Inner.IdOnly.{idOnly}
+use Rattle.admissions.proofs.Place.{refused-alike, accepted-alike, refused-unchanged}
 
 -- a task with a plan, by what the board says of its row
 module _ (rows : List Row) (words : List ℕ) (t : TaskTable) where

@@ -9,7 +9,8 @@ use Rattle.refusals.specs.declared.Refusal.{Refusal}
 use Rattle.refusals.specs.Refusal.{refusal, onOutcome}
 use Rattle.refusals.specs.Answer.{refused}
 use Rattle.tables.specs.declared.TaskTable.{TaskTable}
-use Rattle.plans.specs.Shares.{density}
+use Rattle.plans.specs.Diagram.{longest}
+use Rattle.plans.specs.Shares.{over, shortest, density}
 use Rattle.plans.specs.Words.{written}
 use Rattle.plans.specs.Calls.{beforeReading, onTask}
 use Rattle.boards.specs.declared.Row.{Row}
@@ -23,9 +24,9 @@ pub record Admission : Type 0 where
   pub change : Change
   pub words : List ℕ
 
--- a task's row: "id, node count, density sum and largest density"
+-- a task's row: "id, node count, density sum and largest density", "its longest execution, its smallest deadline numerator and its Q"
 abbrev pub rowOf : TaskTable → Row
-rowOf t = taskRow (t .id) (t .count) (density t)
+rowOf t = taskRow (t .id) (t .count) (density t) (longest t) (shortest t) (over t)
 
 -- "A refusal returns its number and place ..; plan words and board rows stay untouched"
 abbrev pub notAdmitted : List Row → List ℕ → Refusal → Admission

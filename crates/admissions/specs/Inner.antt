@@ -1,1 +1,2 @@
+pub mod IdOnly
 pub mod NoBoard

@@ -15,6 +15,7 @@ ghost use Rattle.plans.specs.Calls.{onTable};
 ghost use Rattle.boards.specs.Row.{rowsMax};
 ghost use Rattle.admissions.specs.Admission.{notAdmitted, entered, admission};
 ghost use Rattle.admissions.specs.Inner.NoBoard.{noBoard};
+ghost use Rattle.admissions.specs.Inner.IdOnly.{idOnly};
 
 // What admitting answers where the board doesn't have 16 rows.
 pub fn no_board(words: usize, cost: u64) -> Answer
@@ -27,6 +28,15 @@ pub fn no_board(words: usize, cost: u64) -> Answer
     boards::unsound()
 }
 
+// A row to find a place with: 12 and 13 look only at the id.
+fn id_only(id: u64) -> Row
+    ensures { λ r. ⌜ r ≡ idOnly id ⌝ }
+{
+    let mut row = Row::free();
+    row.id = id;
+    row
+}
+
 // A task that was read. Its place is found first, since 12 and 13 look only at its id; they are told after 10 and 11, and the words are
 // written only where none of the four is given.
 fn admit_table(words: &mut [u64], table: TaskTable, board: Board, cost: u64) -> Change
@@ -37,15 +47,7 @@ fn admit_table(words: &mut [u64], table: TaskTable, board: Board, cost: u64) -> 
 {
     let id = table.id;
     let n = table.count;
-    let found = boards::placed(
-        board,
-        Row {
-            id,
-            nodes: 0,
-            sum: 0,
-            largest: 0,
-        },
-    );
+    let found = boards::placed(board, id_only(id));
     let later = found.answer;
     let planning = plans::plan_table(words, table, cost, later);
     let answer = planning.answer;
@@ -53,7 +55,10 @@ fn admit_table(words: &mut [u64], table: TaskTable, board: Board, cost: u64) -> 
         return boards::unchanged(board, answer);
     }
     let from = answer.value as usize - 3 * n;
-    let figures = shares::figures_of(&words[from..], n);
+    let nodes = &words[from..];
+    let figures = shares::figures_of(nodes, n);
+    let shortest = shares::shortest_of(nodes, n);
+    let over = words[0];
     Change {
         at: found.at,
         row: Row {
@@ -61,6 +66,9 @@ fn admit_table(words: &mut [u64], table: TaskTable, board: Board, cost: u64) -> 
             nodes: n as u64,
             sum: figures.sum,
             largest: figures.largest,
+            longest: planning.longest,
+            shortest,
+            over,
         },
         answer: later,
     }
@@ -76,7 +84,8 @@ pub fn admission(bytes: &[u8], words: &mut [u64], board: Board, cost: u64) -> Ch
     let Outcome::Accepted = first else {
         return boards::unchanged(board, refusals::answer_of(first));
     };
-    if !boards::is_sound(board) {
+    let sound = boards::densities_sound(board) && boards::times_sound(board);
+    if !sound {
         return boards::unchanged(board, boards::unsound());
     }
     let reading = records::read_record(bytes);

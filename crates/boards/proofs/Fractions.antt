@@ -1,6 +1,6 @@
 -- The rounded inequality and the exact one: a fraction is at most its millionths rounded up, and less than one millionth below them. Both are
 -- kept by sums, multiples and the larger of two, so that the left side of the verdict is at most what it was rounded to, and for N fractions
--- and m cores less than N + m − 1 millionths below it.
+-- and m cores less than N + m − 1 millionths below it; with the overhead, m more.
 use mathlib.Core.Path.{_≡_, ap}
 use mathlib.Core.Logic.{⊎-elim}
 use mathlib.Core.List.{List, [], _∷_, _++_}
@@ -13,7 +13,7 @@ use lib.ListN.{length}
 use borrow.Author.Tests.{leb-true, leb-false}
 use Rattle.plain.proofs.Lists.{lt-or-ge}
 use Rattle.tables.specs.Limits.{million}
-use Rattle.boards.specs.Fractions.{Fraction, whole, _plus_, AtMost, times, larger, total, largest, exactLeft, ExactYes}
+use Rattle.boards.specs.Fractions.{Fraction, whole, _plus_, AtMost, times, larger, total, largest, exactLeft, ExactYes, exactLeftToEnd, ExactYesToEnd}
 use Rattle.plain.proofs.Picks.{pick-case}
 
 ruleset sort = (mul-add, add-mul, mul-assoc, mul-comm, mul-left-comm)
@@ -118,25 +118,54 @@ bounds-of (more {x} {r} {xs} {s} {l} u p) =
       largest-near = near-larger x (largest xs) r l 1 (u .proper) (w .largest-low) n (w .largest-near);
     }
 
--- "A yes must imply the same inequality on the unrounded fractions"
-pub yes-exact : {xs : List Fraction} {s l : ℕ} (m : ℕ) → Rounded xs s l → s + (m - 1) * l ≤ m * million → ExactYes m xs
-yes-exact {xs} {s} {l} m p y =
-    let w = bounds-of p in
-    let b : Below (exactLeft m xs) (s + (m - 1) * l) = below-plus (total xs) (times (m - 1) (largest xs)) s ((m - 1) * l) (w .total-below) (below-times (m - 1) (largest xs) l (w .largest-below)) in
-    last (exactLeft m xs .upper) (exactLeft m xs .lower) (le-trans b (mul-le-mul-right (exactLeft m xs .lower) y))
+-- so by the left side of a verdict, and by that with the overhead
+module _ {xs : List Fraction} {s l : ℕ} (m : ℕ) (p : Rounded xs s l) where
+  left-low : 0 < exactLeft m xs .lower
+  left-low = let w = bounds-of p in mul-pos (w .total-low) (w .largest-low)
+
+  left-below : Below (exactLeft m xs) (s + (m - 1) * l)
+  left-below = let w = bounds-of p in below-plus (total xs) (times (m - 1) (largest xs)) s ((m - 1) * l) (w .total-below) (below-times (m - 1) (largest xs) l (w .largest-below))
+
+  left-near : Near (exactLeft m xs) (s + (m - 1) * l) (length xs + (m - 1) * 1)
+  left-near = let w = bounds-of p in near-plus (total xs) (times (m - 1) (largest xs)) s ((m - 1) * l) (length xs) ((m - 1) * 1) (w .total-near) (near-times (m - 1) (largest xs) l 1 (w .largest-near))
+
+  module _ {r : Fraction} {o : ℕ} (u : RoundedUp r o) where
+    to-end-low : 0 < exactLeftToEnd m xs r .lower
+    to-end-low = mul-pos left-low (u .proper)
+
+    to-end-below : Below (exactLeftToEnd m xs r) (s + (m - 1) * l + m * o)
+    to-end-below = below-plus (exactLeft m xs) (times m r) (s + (m - 1) * l) (m * o) left-below (below-times m r o (u .enough))
+
+    to-end-near : Near (exactLeftToEnd m xs r) (s + (m - 1) * l + m * o) (length xs + (m - 1) * 1 + m * 1)
+    to-end-near = near-plus (exactLeft m xs) (times m r) (s + (m - 1) * l) (m * o) (length xs + (m - 1) * 1) (m * 1) left-near (near-times m r o 1 (omega (arith, u .near)))
+
+-- what is at most m millions of millionths is at most m; and what is at most k millionths too much is at most m millions where k were left over
+below-yes : (m : ℕ) (x : Fraction) (z : ℕ) → Below x z → z ≤ m * million → AtMost x (whole m)
+below-yes m x z b y = last (x .upper) (x .lower) (le-trans b (mul-le-mul-right (x .lower) y))
   where
     last : (u d : ℕ) → u * million ≤ m * million * d → u * 1 ≤ m * d
     last u d c = omega (arith, simp sort at c)
 
--- "if the unrounded left side in millionths is at most m × 1,000,000 − (N + m − 1), the verdict is yes"
-pub exact-yes : {xs : List Fraction} {s l : ℕ} (m : ℕ) → 1 ≤ m → Rounded xs s l → length xs + m - 1 ≤ m * million → AtMost (times million (exactLeft m xs)) (whole (m * million - (length xs + m - 1))) → s + (m - 1) * l ≤ m * million
-exact-yes {xs} {s} {l} m one p room a =
-    let w = bounds-of p in
-    let b : Near (exactLeft m xs) (s + (m - 1) * l) (length xs + (m - 1) * 1) = near-plus (total xs) (times (m - 1) (largest xs)) s ((m - 1) * l) (length xs) ((m - 1) * 1) (w .total-near) (near-times (m - 1) (largest xs) l 1 (w .largest-near)) in
-    let k : length xs + (m - 1) * 1 ≡ length xs + m - 1 = omega arith in
-    last (exactLeft m xs .upper) (exactLeft m xs .lower) (s + (m - 1) * l) (m * million) (length xs + m - 1) (mul-pos (w .total-low) (w .largest-low)) room (rw k at b) a
-  where
-    last : (u d z n k : ℕ) → 0 < d → k ≤ n → z * d ≤ u * million + k * d → million * u * 1 ≤ (n - k) * d → z ≤ n
-    last u d z n k p room b a =
-        let e : (n - k + k) * d ≡ n * d = ap (λ (x : ℕ). x * d) (sub-add-cancel room) in
-        le-of-mul-le-mul-right {k = d} (omega (arith, rw add-mul at e)) p
+near-yes : (n : ℕ) (x : Fraction) (z k j : ℕ) → 0 < x .lower → k ≡ j → j ≤ n → Near x z k → AtMost (times million x) (whole (n - j)) → z ≤ n
+near-yes n x z k j p e room b a =
+    let same : (n - j + j) * x .lower ≡ n * x .lower = ap (λ (y : ℕ). y * x .lower) (sub-add-cancel room) in
+    let c : Near x z j = rw e at b in
+    le-of-mul-le-mul-right {k = x .lower} (omega (arith, rw add-mul at same)) p
+
+module _ {xs : List Fraction} {s l : ℕ} (m : ℕ) (p : Rounded xs s l) where
+  -- "A yes must imply the same inequality on the unrounded fractions"
+  pub yes-exact : s + (m - 1) * l ≤ m * million → ExactYes m xs
+  yes-exact y = below-yes m (exactLeft m xs) (s + (m - 1) * l) (left-below m p) y
+
+  -- "if the unrounded left side in millionths is at most m × 1,000,000 − (N + m − 1), the verdict is yes"
+  pub exact-yes : 1 ≤ m → length xs + m - 1 ≤ m * million → AtMost (times million (exactLeft m xs)) (whole (m * million - (length xs + m - 1))) → s + (m - 1) * l ≤ m * million
+  exact-yes one room a = near-yes (m * million) (exactLeft m xs) (s + (m - 1) * l) (length xs + (m - 1) * 1) (length xs + m - 1) (left-low m p) (omega arith) room (left-near m p) a
+
+  -- the same with the overhead, which may be one millionth too much for each core
+  pub yes-exact-to-end : {r : Fraction} {o : ℕ} → RoundedUp r o → s + (m - 1) * l + m * o ≤ m * million → ExactYesToEnd m xs r
+  yes-exact-to-end {r} {o} u y = below-yes m (exactLeftToEnd m xs r) (s + (m - 1) * l + m * o) (to-end-below m p u) y
+
+  pub exact-yes-to-end : {r : Fraction} {o : ℕ} → RoundedUp r o → 1 ≤ m → length xs + m - 1 + m ≤ m * million
+      → AtMost (times million (exactLeftToEnd m xs r)) (whole (m * million - (length xs + m - 1 + m))) → s + (m - 1) * l + m * o ≤ m * million
+  exact-yes-to-end {r} {o} u one room a =
+      near-yes (m * million) (exactLeftToEnd m xs r) (s + (m - 1) * l + m * o) (length xs + (m - 1) * 1 + m * 1) (length xs + m - 1 + m) (to-end-low m p u) (omega arith) room (to-end-near m p u) a

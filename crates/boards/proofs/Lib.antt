@@ -1,10 +1,12 @@
 pub mod Tests
 pub mod Find
 pub mod Sound
+pub mod Halves
 pub mod Cases
 pub mod Keeping
 pub mod Figures
 pub mod Fractions
 pub mod Nodes
+pub mod Sides
 pub mod Dense
 pub mod Held

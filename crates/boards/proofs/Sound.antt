@@ -7,17 +7,17 @@ use mathlib.Core.List.{List}
 use Prim.Native.Nat.{ℕ, _+_, _-_, _*_, _%_, _≤_, _<_, zero-le}
 use native.Mathlib.Nat.{le-trans, mul-le-mul}
 use native.Mathlib.Omega.{arith}
-use lib.Dec.{eqb}
+use lib.Dec.{eqb, leb}
 use lib.ListN.{length, replicate}
-use borrow.Author.Tests.{eqb-true, eqb-false, eq-eqb, ne-eqb, le-leb}
+use borrow.Author.Tests.{eqb-true, eqb-false, eq-eqb, ne-eqb, leb-true, le-leb}
 use Rattle.plain.specs.Pick.{pick}
 use Rattle.plain.specs.Sums.{sumTo, maxTo}
 use Rattle.plain.proofs.Sums.{sumTo-le, maxTo-le}
-use Rattle.tables.specs.Limits.{idMax, countMax, densityMax, million}
+use Rattle.tables.specs.Limits.{idMax, periodMax, countMax, runMax, overMax, densityMax, million}
 use Rattle.sets.specs.Member.{Member}
 use Rattle.boards.specs.declared.Row.{Row}
 use Rattle.boards.specs.Row.{freeRow, rowsMax, rowAt}
-use Rattle.boards.specs.Sound.{Standing, Sound, between, isFree, isStanding, isSoundRow, isNew, isSound, allTo}
+use Rattle.boards.specs.Sound.{Standing, Sound, between, isBare, isUntimed, isFree, isDense, isTimed, isStanding, isSoundRow, isNew, isSound, allTo}
 use Rattle.boards.specs.Verdict.{sumOf, largestOf, verdict}
 use Rattle.plain.proofs.Picks.{true-false, pick-case}
 use Rattle.boards.proofs.Tests.{both-true, true-both, between-true, true-between, allTo-true, true-allTo, allTo-same}
@@ -25,24 +25,34 @@ use Rattle.boards.proofs.Tests.{both-true, true-both, between-true, tru
 -- a free row
 pub free-test : (r : Row) → isFree r ≡ true → r ≡ freeRow
 free-test r e =
-    let a = both-true (eqb (r .id) 0) _ e in
+    let w = both-true (isBare r) (isUntimed r) e in
+    let a = both-true (eqb (r .id) 0) _ (w .0) in
     let b = both-true (eqb (r .nodes) 0) _ (a .1) in
     let c = both-true (eqb (r .sum) 0) (eqb (r .largest) 0) (b .1) in
+    let d = both-true (eqb (r .longest) 0) _ (w .1) in
+    let f = both-true (eqb (r .shortest) 0) (eqb (r .over) 0) (d .1) in
     same (eqb-true (r .id) 0 (a .0)) (eqb-true (r .nodes) 0 (b .0)) (eqb-true (r .sum) 0 (c .0)) (eqb-true (r .largest) 0 (c .1))
+    (eqb-true (r .longest) 0 (d .0)) (eqb-true (r .shortest) 0 (f .0)) (eqb-true (r .over) 0 (f .1))
   where
-    same : r .id ≡ 0 → r .nodes ≡ 0 → r .sum ≡ 0 → r .largest ≡ 0 → r ≡ freeRow
-    same p q s t = λ i. record { id = p i; nodes = q i; sum = s i; largest = t i }
+    same : r .id ≡ 0 → r .nodes ≡ 0 → r .sum ≡ 0 → r .largest ≡ 0 → r .longest ≡ 0 → r .shortest ≡ 0 → r .over ≡ 0 → r ≡ freeRow
+    same p q s t u v w = λ i. record { id = p i; nodes = q i; sum = s i; largest = t i; longest = u i; shortest = v i; over = w i }
 
 -- a standing row
 pub standing-test : (r : Row) → isStanding r ≡ true → Standing r
 standing-test r e =
-    let a = both-true (between 1 (r .id) idMax) _ e in
+    let w = both-true (isDense r) (isTimed r) e in
+    let a = both-true (between 1 (r .id) idMax) _ (w .0) in
     let b = both-true (between 1 (r .nodes) countMax) _ (a .1) in
     let c = both-true (between 1 (r .largest) densityMax) (between (r .largest) (r .sum) (r .nodes * r .largest)) (b .1) in
+    let d = both-true (between 1 (r .longest) runMax) _ (w .1) in
+    let f = both-true (between 1 (r .over) overMax) _ (d .1) in
+    let g = both-true (leb (r .shortest) (periodMax * r .over)) (leb (r .over) (2 * r .shortest)) (f .1) in
     let i = between-true 1 (r .id) idMax (a .0) in
     let n = between-true 1 (r .nodes) countMax (b .0) in
     let l = between-true 1 (r .largest) densityMax (c .0) in
     let s = between-true (r .largest) (r .sum) (r .nodes * r .largest) (c .1) in
+    let x = between-true 1 (r .longest) runMax (d .0) in
+    let q = between-true 1 (r .over) overMax (f .0) in
     record {
       id-low = i .0;
       id-high = i .1;
@@ -52,14 +62,24 @@ standing-test r e =
       largest-high = l .1;
       sum-low = s .0;
       sum-high = s .1;
+      longest-low = x .0;
+      longest-high = x .1;
+      over-low = q .0;
+      over-high = q .1;
+      over-half = leb-true (r .over) (2 * r .shortest) (g .1);
+      shortest-high = leb-true (r .shortest) (periodMax * r .over) (g .0);
     }
 
 pub test-standing : {r : Row} → Standing r → isStanding r ≡ true
 test-standing {r} s =
-    true-both (true-between 1 (r .id) idMax (s .id-low) (s .id-high))
+    true-both
+    (true-both (true-between 1 (r .id) idMax (s .id-low) (s .id-high))
     (true-both (true-between 1 (r .nodes) countMax (s .nodes-low) (s .nodes-high))
     (true-both (true-between 1 (r .largest) densityMax (s .largest-low) (s .largest-high))
-    (true-between (r .largest) (r .sum) (r .nodes * r .largest) (s .sum-low) (s .sum-high))))
+    (true-between (r .largest) (r .sum) (r .nodes * r .largest) (s .sum-low) (s .sum-high)))))
+    (true-both (true-between 1 (r .longest) runMax (s .longest-low) (s .longest-high))
+    (true-both (true-between 1 (r .over) overMax (s .over-low) (s .over-high))
+    (true-both (le-leb (r .shortest) (periodMax * r .over) (s .shortest-high)) (le-leb (r .over) (2 * r .shortest) (s .over-half)))))
 
 -- each is free or has the ranges
 pub row-test : (r : Row) → isSoundRow r ≡ true → (r ≡ freeRow) ⊎ Standing r

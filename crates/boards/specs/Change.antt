@@ -1,4 +1,5 @@
 -- What a call does to a board: one row written at one place, and the answer. Where nothing changes, row 0 is written as it was.
+use mathlib.Core.Bool.{Bool}
 use mathlib.Core.List.{List}
 use Prim.Native.Nat.{ℕ}
 use lib.Dec.{eqb, ltb}
@@ -6,7 +7,9 @@ use lib.ListN.{set}
 use Rattle.plain.specs.Pick.{pick, one}
 use Rattle.refusals.specs.Numbers.{idStands, boardFull, notStanding, badCores, unsoundBoard}
 use Rattle.refusals.specs.declared.Answer.{Answer}
-use Rattle.refusals.specs.Refusal.{refusal}
+use Rattle.refusals.specs.declared.Outcome.{Outcome}
+use Rattle.refusals.specs.declared.Outcome.the-variants.{Accepted, Refused}
+use Rattle.refusals.specs.Refusal.{refusal, onOutcome}
 use Rattle.refusals.specs.Answer.{accepted, refused}
 use Rattle.boards.specs.declared.Row.{Row}
 use Rattle.boards.specs.declared.Change.{Change}
@@ -39,11 +42,18 @@ withdrawn rows id =
     (unchanged rows (refused (refusal notStanding 0)))))
     (unchanged rows (refused (refusal unsoundBoard 0)))
 
--- asking: 17, then 15; else yes or no
-unfoldable pub asked : List Row → ℕ → Answer
-asked rows cores =
-    pick (isSound rows)
-    (pick (eqb cores 0) (refused (refusal badCores 0))
-    (pick (ltb coresMax cores) (refused (refusal badCores 0))
-    (accepted (one (verdict rows cores)))))
-    (refused (refusal unsoundBoard 0))
+-- "Asking checks 17, 15"
+unfoldable pub beforeAsking : (sound : Bool) (cores : ℕ) → Outcome
+beforeAsking sound cores =
+    pick sound
+    (pick (eqb cores 0) (Refused (refusal badCores 0))
+    (pick (ltb coresMax cores) (Refused (refusal badCores 0)) Accepted))
+    (Refused (refusal unsoundBoard 0))
+
+-- asking for a verdict: its refusals, else yes or no
+unfoldable pub askedBy : (List Row → ℕ → Bool) → List Row → ℕ → Answer
+askedBy says rows cores = onOutcome refused (accepted (one (says rows cores))) (beforeAsking (isSound rows) cores)
+
+-- for the one of document 01
+abbrev pub asked : List Row → ℕ → Answer
+asked = askedBy verdict

@@ -44,6 +44,19 @@ unfoldable pub largest : List Fraction → Fraction
 largest [] = whole 0
 largest (x ∷ xs) = larger x (largest xs)
 
+-- the shorter of two deadlines; 0 is none
+abbrev pub shorter : Fraction → Fraction → Fraction
+shorter x y = pick (eqb (x .upper) 0) y (pick (eqb (y .upper) 0) x (pick (leb (x .upper * y .lower) (y .upper * x .lower)) x y))
+
+-- the shortest of all; 0 where there is none
+unfoldable pub shortest : List Fraction → Fraction
+shortest [] = whole 0
+shortest (x ∷ xs) = shorter x (shortest xs)
+
+-- r, unrounded: "the longest execution over the shortest deadline", which is execution × Q over numerator
+abbrev pub exactOverhead : (longest : ℕ) (shortest : Fraction) → Fraction
+exactOverhead x d = exactDensity x (d .lower) (d .upper)
+
 -- the left side of the inequality on the unrounded fractions: S + (m − 1) × M
 abbrev pub exactLeft : ℕ → List Fraction → Fraction
 exactLeft m xs = total xs plus times (m - 1) (largest xs)
@@ -51,3 +64,11 @@ exactLeft m xs = total xs plus times (m - 1) (largest xs)
 -- "the same inequality on the unrounded fractions": S + (m − 1) × M ≤ m
 abbrev pub ExactYes : ℕ → List Fraction → Type 0
 ExactYes m xs = AtMost (exactLeft m xs) (whole m)
+
+-- with steps that run to their end: S + (m − 1) × M + m × r
+abbrev pub exactLeftToEnd : ℕ → List Fraction → Fraction → Fraction
+exactLeftToEnd m xs r = exactLeft m xs plus times m r
+
+-- document 000, Theorem 6, on the unrounded fractions: S ≤ m × (1 − r) − (m − 1) × M, with all but m on the left
+abbrev pub ExactYesToEnd : ℕ → List Fraction → Fraction → Type 0
+ExactYesToEnd m xs r = AtMost (exactLeftToEnd m xs r) (whole m)

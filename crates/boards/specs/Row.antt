@@ -1,4 +1,4 @@
--- One row of the board: "id, node count, density sum and largest density".
+-- One row of the board: "id, node count, density sum and largest density", and "its longest execution, its smallest deadline numerator and its Q".
 use mathlib.Core.List.{List}
 use Prim.Native.Nat.{ℕ}
 use lib.ListN.{getD}
@@ -7,7 +7,7 @@ use Rattle.boards.specs.declared.Row.{Row}
 
 -- "A free row is all zeros"
 abbrev pub freeRow : Row
-freeRow = record { id = 0; nodes = 0; sum = 0; largest = 0 }
+freeRow = record { id = 0; nodes = 0; sum = 0; largest = 0; longest = 0; shortest = 0; over = 0 }
 
 -- "a lent slice of 16 rows"
 abbrev pub rowsMax : ℕ
@@ -17,6 +17,14 @@ rowsMax = 16
 abbrev pub rowAt : List Row → ℕ → Row
 rowAt rows k = getD rows k freeRow
 
--- the row of a task of n nodes with these densities: "id, node count, density sum and largest density"
-abbrev pub taskRow : (id n : ℕ) → (ℕ → ℕ) → Row
-taskRow id n density = record { id = id; nodes = n; sum = sumTo n density; largest = maxTo n density }
+-- the row of a task of n nodes with these densities: "id, node count, density sum and largest density", and with the three figures of its times
+abbrev pub taskRow : (id n : ℕ) (density : ℕ → ℕ) (longest shortest over : ℕ) → Row
+taskRow id n density longest shortest over = record {
+  id = id;
+  nodes = n;
+  sum = sumTo n density;
+  largest = maxTo n density;
+  longest = longest;
+  shortest = shortest;
+  over = over;
+}

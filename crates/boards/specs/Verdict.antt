@@ -20,6 +20,10 @@ sumOf rows = sumTo rowsMax (λ k. rowAt rows k .sum)
 unfoldable pub largestOf : List Row → ℕ
 largestOf rows = maxTo rowsMax (λ k. rowAt rows k .largest)
 
+-- "the longest execution .. among all standing nodes"
+unfoldable pub longestOf : List Row → ℕ
+longestOf rows = maxTo rowsMax (λ k. rowAt rows k .longest)
+
 -- yes for m cores
 abbrev pub verdict : List Row → ℕ → Bool
 verdict rows m = leb (sumOf rows + (m - 1) * largestOf rows) (m * million)

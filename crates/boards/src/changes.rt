@@ -4,18 +4,21 @@ use crate::Change;
 use crate::ROWS;
 use crate::Row;
 use crate::places::place_of;
-use crate::soundness::is_sound;
+use crate::soundness::densities_sound;
+use crate::soundness::times_sound;
 use crate::verdicts::verdict_for;
 use refusals::Answer;
+use refusals::Outcome;
 use refusals::Refusal;
 ghost use mathlib.Core.Path.{_≡_};
 ghost use Prim.Native.Nat.{_<_};
 ghost use lib.ListN.{set};
+ghost use Rattle.plain.specs.Pick.{one};
 ghost use Rattle.refusals.specs.Numbers.{unsoundBoard};
 ghost use Rattle.refusals.specs.Refusal.{refusal};
-ghost use Rattle.refusals.specs.Answer.{refused};
+ghost use Rattle.refusals.specs.Answer.{accepted, refused};
 ghost use Rattle.boards.specs.Row.{rowsMax};
-ghost use Rattle.boards.specs.Change.{unchanged, placed, withdrawn, asked};
+ghost use Rattle.boards.specs.Change.{unchanged, placed, withdrawn, beforeAsking, asked};
 
 // Limit of specs/: the most cores.
 const CORES_MAX: u64 = 64;
@@ -80,7 +83,8 @@ pub fn placed(board: Board, row: Row) -> Change
 pub fn withdrawn(board: Board, id: u64) -> Change
     ensures { λ r. ⌜ (r ≡ withdrawn (board .rows) id) × (r .at < rowsMax) ⌝ }
 {
-    if !is_sound(board) {
+    let sound = densities_sound(board) && times_sound(board);
+    if !sound {
         return unchanged(board, unsound());
     }
     if id == 0 {
@@ -98,22 +102,41 @@ pub fn withdrawn(board: Board, id: u64) -> Change
     }
 }
 
-// The verdict for so many cores.
-pub fn asked(board: Board, cores: u64) -> Answer
-    ensures { λ r. ⌜ r ≡ asked (board .rows) cores ⌝ }
+// Whether a verdict is to be given at all: 17, then 15.
+pub fn before_asking(sound: bool, cores: u64) -> Outcome
+    ensures { λ r. ⌜ r ≡ beforeAsking sound cores ⌝ }
 {
-    if !is_sound(board) {
-        return unsound();
+    if !sound {
+        return Outcome::Refused(Refusal::of(Refusal::UNSOUND_BOARD, 0));
     }
     if cores == 0 {
-        return refused_by(Refusal::BAD_CORES);
+        return Outcome::Refused(Refusal::of(Refusal::BAD_CORES, 0));
     }
     if CORES_MAX < cores {
-        return refused_by(Refusal::BAD_CORES);
+        return Outcome::Refused(Refusal::of(Refusal::BAD_CORES, 0));
     }
-    if verdict_for(board, cores) {
+    Outcome::Accepted
+}
+
+// Yes or no as an answer.
+pub fn told(yes: bool) -> Answer
+    ensures { λ r. ⌜ r ≡ accepted (one yes) ⌝ }
+{
+    if yes {
         Answer::accepted(1)
     } else {
         Answer::accepted(0)
     }
+}
+
+// The verdict for so many cores.
+pub fn asked(board: Board, cores: u64) -> Answer
+    ensures { λ r. ⌜ r ≡ asked (board .rows) cores ⌝ }
+{
+    let sound = densities_sound(board) && times_sound(board);
+    let first = before_asking(sound, cores);
+    let Outcome::Accepted = first else {
+        return refusals::answer_of(first);
+    };
+    told(verdict_for(board, cores))
 }

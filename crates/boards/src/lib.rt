@@ -10,12 +10,18 @@ mod soundness;
 mod verdicts;
 
 pub use changes::asked;
+pub use changes::before_asking;
 pub use changes::placed;
+pub use changes::told;
 pub use changes::unchanged;
 pub use changes::unsound;
 pub use changes::with_row;
 pub use changes::withdrawn;
-pub use soundness::is_sound;
+pub use soundness::densities_sound;
+pub use soundness::times_sound;
+pub use verdicts::Peaks;
+pub use verdicts::peaks_of;
+pub use verdicts::sum_of;
 
 // Limit of specs/: the rows of a board.
 pub const ROWS: usize = 16;
@@ -26,6 +32,9 @@ pub struct Row {
     pub nodes: u64,
     pub sum: u64,
     pub largest: u64,
+    pub longest: u64,
+    pub shortest: u64,
+    pub over: u64,
 }
 
 pub struct Board {
@@ -48,6 +57,9 @@ impl Row {
             nodes: 0,
             sum: 0,
             largest: 0,
+            longest: 0,
+            shortest: 0,
+            over: 0,
         }
     }
 }

@@ -1,69 +1,123 @@
--- Asking answers by its rules, and a yes is the inequality.
+-- Asking for a verdict answers by its rules, and a yes is its inequality, whichever of the two verdicts it is.
 use mathlib.Core.Path.{_≡_, refl, sym, ap, _∙_}
 use mathlib.Core.Logic.{_⊎_, inl, inr, ⊎-elim}
 use mathlib.Core.Bool.{Bool, true, false}
 use mathlib.Core.List.{List}
 use Prim.Native.Nat.{ℕ, _≤_, _<_}
 use native.Mathlib.Omega.{arith}
+use lib.Dec.{leb}
 use borrow.Author.Tests.{leb-true, leb-false, eqb-false}
 use Rattle.plain.specs.Pick.{one}
 use Rattle.refusals.specs.declared.Answer.{Answer}
-use Rattle.refusals.specs.Answer.{accepted}
+use Rattle.refusals.specs.declared.Outcome.{Outcome}
+use Rattle.refusals.specs.Refusal.{onOutcome}
+use Rattle.refusals.specs.Answer.{accepted, refused}
 use Rattle.boards.specs.declared.Row.{Row}
 use Rattle.boards.specs.Sound.{Sound}
 use Rattle.boards.specs.Verdict.{verdict}
-use Rattle.boards.specs.Change.{asked}
-use Rattle.boards.proofs.Cases.{Asking, asking}
-use Rattle.boards.proofs.Cases.Asking.{unsound, outside, told}
-use Rattle.planner.specs.Calls.{askCall}
+use Rattle.overheads.specs.ToEnd.{verdictToEnd, askedToEnd}
+use Rattle.boards.specs.Change.{askedBy, asked}
+use Rattle.boards.proofs.Cases.{Before, before}
+use Rattle.boards.proofs.Cases.Before.{unsound, outside, asks}
+use Rattle.planner.specs.Calls.{askCall, askToEndCall}
 use Rattle.claims.specs.Rule.{Decides}
-use Rattle.claims.specs.Ask.{askRules, Fits, askValue, OfAsking}
+use Rattle.claims.specs.Ask.{askRules, Fits, yesWhen, OfAsking}
+use Rattle.claims.specs.ToEnd.{FitsToEnd, OfAskingToEnd}
 use Rattle.claims.proofs.Rule.{OneValue, single, gives, not-given}
 use Rattle.claims.proofs.Promise.{promised}
 
-module _ (rows : List Row) (m : ℕ) where
-  -- yes or no, one of them
-  one-told : OneValue (askValue rows m)
-  one-told v w (inl (f, e)) (inl (g, d)) = e ∙ sym d
-  one-told v w (inl (f, e)) (inr (n, d)) = absurd (n f)
-  one-told v w (inr (n, e)) (inl (g, d)) = absurd (n g)
-  one-told v w (inr (n, e)) (inr (k, d)) = e ∙ sym d
+-- a test that says just where something fits
+pub record Tells (says : Bool) (Fit : Type 0) : Type 0 where
+  pub holds : says ≡ true → Fit
+  pub fails : says ≡ false → Fit → ⊥
 
-  -- its rules decide its answer
-  decides : Decides (askRules rows m) (askValue rows m) (asked rows m)
-  decides = go (asking rows m)
+le-tells : (a b : ℕ) → Tells (leb a b) (a ≤ b)
+le-tells a b = record { holds = leb-true a b; fails = λ e. not-le (leb-false a b e) }
+  where
+    not-le : b < a → a ≤ b → ⊥
+    not-le h l = omega arith
+
+-- yes or no, one of them
+one-told : (Fit : Type 0) → OneValue (yesWhen Fit)
+one-told Fit v w (inl (f, e)) (inl (g, d)) = e ∙ sym d
+one-told Fit v w (inl (f, e)) (inr (n, d)) = absurd (n f)
+one-told Fit v w (inr (n, e)) (inl (g, d)) = absurd (n g)
+one-told Fit v w (inr (n, e)) (inr (k, d)) = e ∙ sym d
+
+module _ (says : List Row → ℕ → Bool) (rows : List Row) (m : ℕ) (Fit : Type 0) (tells : Tells (says rows m) Fit) where
+  -- the rules decide the answer
+  decides : Decides (askRules rows m) (yesWhen Fit) (askedBy says rows m)
+  unfolding askedBy
+  decides = go (before rows m)
     where
-      not-le : {a b : ℕ} → b < a → a ≤ b → ⊥
-      not-le h l = omega arith
+      value : (b : Bool) → says rows m ≡ b → yesWhen Fit (one b)
+      value true e = inl (tells .holds e, refl)
+      value false e = inr (tells .fails e, refl)
 
-      value : (b : Bool) → verdict rows m ≡ b → askValue rows m (one b)
-      value true e = inl (leb-true _ _ e, refl)
-      value false e = inr (not-le (leb-false _ _ e), refl)
-
-      go : {a : Answer} → Asking rows m a → Decides (askRules rows m) (askValue rows m) a
+      go : {o : Outcome} → Before rows m o → Decides (askRules rows m) (yesWhen Fit) (onOutcome refused (accepted (one (says rows m))) o)
       go (unsound u) = inl (gives 17 u refl)
       go (outside s a) = inr (not-given (λ u. u s), inl (gives 15 a refl))
-      go (told s l h) = inr (not-given (λ u. u s), inr (not-given (⊎-elim (λ (z : m ≡ 0). omega arith) (λ (g : 64 < m). omega arith)), (one (verdict rows m), value (verdict rows m) refl, refl)))
+      go (asks s l h) = inr (not-given (λ u. u s), inr (not-given (⊎-elim (λ (z : m ≡ 0). omega arith) (λ (g : 64 < m). omega arith)), (one (says rows m), value (says rows m) refl, refl)))
 
-  -- a yes is the inequality
-  pub yes-fits : asked rows m ≡ accepted 1 → Fits rows m
-  yes-fits y = go (rw y at decides)
+  -- a yes is the inequality, on a sound board and a core count in its range
+  pub yes-means : askedBy says rows m ≡ accepted 1 → Sound rows × (1 ≤ m) × (m ≤ 64) × Fit
+  unfolding askedBy
+  yes-means = go (before rows m)
     where
-      go : Decides (askRules rows m) (askValue rows m) (accepted 1) → Fits rows m
-      go (inl (r, (u, q), e)) = absurd (eqb-false 0 17 refl (ap (λ (a : Answer). a .refusal) (rw q at e)))
-      go (inr (s, inl (r, (c, q), e))) = absurd (eqb-false 0 15 refl (ap (λ (a : Answer). a .refusal) (rw q at e)))
-      go (inr (s, inr (c, (v, inl (f, q), e)))) = f
-      go (inr (s, inr (c, (v, inr (n, q), e)))) = absurd (eqb-false 1 0 refl (ap (λ (a : Answer). a .value) e ∙ q))
+      yes-holds : (b : Bool) → one b ≡ 1 → b ≡ true
+      yes-holds true e = refl
+      yes-holds false e = absurd (omega arith)
 
--- the promise
+      go : {o : Outcome} → Before rows m o → onOutcome refused (accepted (one (says rows m))) o ≡ accepted 1 → Sound rows × (1 ≤ m) × (m ≤ 64) × Fit
+      go (unsound u) e = absurd (eqb-false 17 0 refl (ap (λ (a : Answer). a .refusal) e))
+      go (outside s c) e = absurd (eqb-false 15 0 refl (ap (λ (a : Answer). a .refusal) e))
+      go (asks s l h) e = (s, l, h, tells .holds (yes-holds (says rows m) (ap (λ (a : Answer). a .value) e)))
+
+  -- the inequality is a yes
+  pub means-yes : Sound rows → 1 ≤ m → m ≤ 64 → Fit → askedBy says rows m ≡ accepted 1
+  unfolding askedBy
+  means-yes s low high f = go (before rows m)
+    where
+      holds-yes : (b : Bool) → says rows m ≡ b → one b ≡ 1
+      holds-yes true e = refl
+      holds-yes false e = absurd (tells .fails e f)
+
+      go : {o : Outcome} → Before rows m o → onOutcome refused (accepted (one (says rows m))) o ≡ accepted 1
+      go (unsound u) = absurd (u s)
+      go (outside t c) = absurd (⊎-elim (λ (z : m ≡ 0). omega arith) (λ (g : 64 < m). omega arith) c)
+      go (asks t l h) = ap accepted (holds-yes (says rows m) refl)
+
+-- the two verdicts
+module _ (rows : List Row) (m : ℕ) where
+  fits-told : Tells (verdict rows m) (Fits rows m)
+  fits-told = le-tells _ _
+
+  fits-to-end-told : Tells (verdictToEnd rows m) (FitsToEnd rows m)
+  fits-to-end-told = le-tells _ _
+
+  pub yes-fits : asked rows m ≡ accepted 1 → Fits rows m
+  yes-fits y = yes-means verdict rows m (Fits rows m) fits-told y .3
+
+  pub fits-yes : Sound rows → 1 ≤ m → m ≤ 64 → Fits rows m → asked rows m ≡ accepted 1
+  fits-yes = means-yes verdict rows m (Fits rows m) fits-told
+
+  pub yes-fits-to-end : askedToEnd rows m ≡ accepted 1 → FitsToEnd rows m
+  yes-fits-to-end y = yes-means verdictToEnd rows m (FitsToEnd rows m) fits-to-end-told y .3
+
+  pub fits-yes-to-end : Sound rows → 1 ≤ m → m ≤ 64 → FitsToEnd rows m → askedToEnd rows m ≡ accepted 1
+  fits-yes-to-end = means-yes verdictToEnd rows m (FitsToEnd rows m) fits-to-end-told
+
+  -- what fits with the overhead fits without it
+  preemptive : askedToEnd rows m ≡ accepted 1 → asked rows m ≡ accepted 1
+  preemptive y = let (s, l, h, f) = yes-means verdictToEnd rows m (FitsToEnd rows m) fits-to-end-told y in fits-yes s l h (omega arith)
+
+-- the promises
 pub of-asking : OfAsking
-of-asking rows m = promised (askCall rows m) (askRules rows m) (askValue rows m) (single _ _, (single _ _, tt)) (one-told rows m) (decides rows m) (λ n. refl) (λ z. refl)
+of-asking rows m = promised (askCall rows m) (askRules rows m) (yesWhen (Fits rows m)) (single _ _, (single _ _, tt)) (one-told (Fits rows m)) (decides verdict rows m (Fits rows m) (fits-told rows m)) (λ n. refl) (λ z. refl)
 
--- the inequality is a yes
-pub fits-yes : (rows : List Row) (m : ℕ) → Sound rows → 1 ≤ m → m ≤ 64 → Fits rows m → asked rows m ≡ accepted 1
-fits-yes rows m s low high f =
-    sym (of-asking rows m .only-when (askCall rows m) refl (accepted 1) .0 (inr (not-given (λ u. u s), inr (not-given inside, (1, inl (f, refl), refl)))))
-  where
-    inside : (m ≡ 0) ⊎ (64 < m) → ⊥
-    inside (inl z) = omega arith
-    inside (inr l) = omega arith
+pub of-asking-to-end : OfAskingToEnd
+of-asking-to-end = record {
+  call = λ rows m. promised (askToEndCall rows m) (askRules rows m) (yesWhen (FitsToEnd rows m)) (single _ _, (single _ _, tt)) (one-told (FitsToEnd rows m))
+      (decides verdictToEnd rows m (FitsToEnd rows m) (fits-to-end-told rows m)) (λ n. refl) (λ z. refl);
+  preemptive = preemptive;
+}

@@ -29,7 +29,7 @@ use Rattle.admissions.specs.Admission.{Admission, rowOf, admission}
 use Rattle.admissions.proofs.Keeping.{admission-sound}
 use Rattle.planner.specs.Calls.{Lent, admitCall, withdrawCall}
 use Rattle.claims.specs.Calls.{Call, State, without, emptyDay, afterCall, afterCalls}
-use Rattle.claims.specs.Calls.Call.{admit, withdraw, ask}
+use Rattle.claims.specs.Calls.Call.{admit, withdraw, ask, askToEnd}
 use Rattle.claims.specs.Day.{Among, RowIs, NoIdTwice}
 use Rattle.claims.specs.Day.NoIdTwice.{none, more}
 use Rattle.claims.proofs.Admit.{admit-accepted, admit-untouched}
@@ -203,6 +203,7 @@ paired-call (withdraw id) {s} p = go (eqb (withdrawn (s .rows) id .answer .refus
         rw (ap (λ (c : Change). changed (s .rows) c) (w .is)) (paired-left p id w)
     go false e = rw (withdrawn-refused (s .rows) id (eqb-false _ 0 e)) p
 paired-call (ask cores) p = p
+paired-call (askToEnd cores) p = p
 
 -- so does a day
 pub paired-calls : (calls : List Call) {s : State} → Paired s → Paired (afterCalls calls s)

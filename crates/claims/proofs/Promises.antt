@@ -4,7 +4,7 @@ use Rattle.claims.proofs.Record.{reading}
 use Rattle.claims.proofs.Plan.{of-planning}
 use Rattle.claims.proofs.Admit.{of-admitting}
 use Rattle.claims.proofs.Withdraw.{of-withdrawing}
-use Rattle.claims.proofs.Ask.{of-asking}
+use Rattle.claims.proofs.Ask.{of-asking, of-asking-to-end}
 use Rattle.claims.proofs.Print.{of-printing}
 use Rattle.claims.proofs.Diagram.{tables-timed}
 use Rattle.claims.proofs.Cost.{of-cost}
@@ -19,6 +19,7 @@ promises = record {
   admitting = of-admitting;
   withdrawing = of-withdrawing;
   asking = of-asking;
+  asking-to-end = of-asking-to-end;
   printing = of-printing;
   tables-timed = tables-timed;
   cost = of-cost;

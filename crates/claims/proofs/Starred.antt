@@ -19,21 +19,22 @@ use Rattle.ways.specs.Closure.{union, stage, stages, reach, some, loops}
 use Rattle.rings.specs.Inside.{inside}
 use Rattle.rings.specs.Ring.{smallest, unlessNeeded, ringAfter}
 use Rattle.ways.specs.Ways.{endsAfter, ends, begins}
-use Rattle.ways.specs.Totals.{workOf, pathOf}
+use Rattle.ways.specs.Totals.{workOf, longestOf, pathOf}
 use Rattle.segments.specs.Cut.{nextTo, next, cut, segments, lengthOf}
 use Rattle.segments.specs.Running.{runs, runningIn, running, threads}
 use Rattle.segments.specs.Share.{share}
 use Rattle.shares.specs.Heavy.{isHeavy, heavies, heavyWork, lightLength}
 use Rattle.shares.specs.Deal.{deal, numerator}
 use Rattle.shares.specs.Density.{millionths}
+use Rattle.shares.specs.Figures.{smaller, smallestTo}
 use Rattle.shares.specs.Triples.{triples}
-use Rattle.plans.specs.Shares.{numeratorOf, deadline, offset, density}
+use Rattle.plans.specs.Shares.{numeratorOf, deadline, shortest, offset, density}
 use Rattle.plans.specs.Words.{frontWords, nodeWords}
 use Rattle.plans.specs.Calls.{beforeReading, onTable, onTask, planCall}
 use Rattle.boards.specs.Find.{placeOf}
 use Rattle.boards.specs.Sound.{isSoundRow, allTo, isNew, isSound}
 use Rattle.boards.specs.Verdict.{sumOf, largestOf}
-use Rattle.boards.specs.Change.{placed, asked}
+use Rattle.boards.specs.Change.{placed, beforeAsking, askedBy}
 use Rattle.admissions.specs.Admission.{entered, admission}
 use Rattle.texts.specs.Decimal.{digits, decimal}
 use Rattle.texts.specs.Lines.{field, line}
@@ -45,6 +46,6 @@ use Rattle.claims.specs.Starred.AllCome.{done, _also_}
 
 -- every line of the list
 pub all-come : Starred
-unfolding starred kindsTo afterCall afterCalls sheetText linesTo line field decimal digits admission entered placed asked isSound isSoundRow isNew allTo sumOf largestOf placeOf planCall beforeReading onTask onTable frontWords nodeWords numeratorOf deadline offset density share deal numerator millionths triples isHeavy heavies heavyWork lightLength segments lengthOf cut next nextTo running runningIn runs threads begins ends endsAfter workOf pathOf loops some reach stages stage union inside smallest unlessNeeded ringAfter withoutMember readingOf nodes nothingFollows allZero parentSet parents andThen ranged whole number before tab greatest setOf sizeTo bit sumTo maxTo upTo
+unfolding starred kindsTo afterCall afterCalls sheetText linesTo line field decimal digits admission entered placed askedBy beforeAsking isSound isSoundRow isNew allTo sumOf largestOf placeOf planCall beforeReading onTask onTable frontWords nodeWords numeratorOf deadline shortest offset density share deal numerator millionths smaller smallestTo triples isHeavy heavies heavyWork lightLength segments lengthOf cut next nextTo running runningIn runs threads begins ends endsAfter workOf longestOf pathOf loops some reach stages stage union inside smallest unlessNeeded ringAfter withoutMember readingOf nodes nothingFollows allZero parentSet parents andThen ranged whole number before tab greatest setOf sizeTo bit sumTo maxTo upTo
 all-come =
     refl also refl also refl also refl also refl also refl also refl also refl also refl also refl also refl also refl also refl also refl also refl also refl also refl also refl also refl also refl also refl also refl also refl also refl also refl also refl also done

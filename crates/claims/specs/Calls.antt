@@ -9,25 +9,28 @@ use Rattle.tables.specs.declared.TaskTable.{TaskTable}
 use Rattle.boards.specs.declared.Row.{Row}
 use Rattle.boards.specs.Row.{freeRow}
 use Rattle.plans.specs.Calls.{taskOf}
-use Rattle.planner.specs.Calls.{admitCall, withdrawCall, askCall}
+use Rattle.planner.specs.Calls.{admitCall, withdrawCall, askCall, askToEndCall}
 
 -- a call, with what it is lent and told beside the board
 pub data Call : Type 0 where
   admit : (bytes words : List ℕ) (cost : ℕ) → Call
   withdraw : (id : ℕ) → Call
   ask : (cores : ℕ) → Call
+  askToEnd : (cores : ℕ) → Call
 
 -- what a call answers, by its own definition; any words may be lent
 abbrev pub answerTo : Call → List Row → Answer
 answerTo (admit bytes words cost) rows = admitCall bytes words rows cost .answer
 answerTo (withdraw id) rows = withdrawCall rows id .answer
 answerTo (ask cores) rows = askCall rows cores .answer
+answerTo (askToEnd cores) rows = askToEndCall rows cores .answer
 
 -- the rows that it leaves
 abbrev pub rowsAfter : Call → List Row → List Row
 rowsAfter (admit bytes words cost) rows = admitCall bytes words rows cost .lent .rows
 rowsAfter (withdraw id) rows = withdrawCall rows id .lent
 rowsAfter (ask cores) rows = askCall rows cores .lent
+rowsAfter (askToEnd cores) rows = askToEndCall rows cores .lent
 
 -- the tables without those that have this id
 unfoldable pub without : ℕ → List TaskTable → List TaskTable
@@ -44,12 +47,14 @@ abbrev pub nextStanding : Call → Answer → List TaskTable → List TaskTable
 nextStanding (admit bytes words cost) answer ts = ifAccepted answer (taskOf bytes cost ∷ ts) ts
 nextStanding (withdraw id) answer ts = ifAccepted answer (without id ts) ts
 nextStanding (ask cores) answer ts = ts
+nextStanding (askToEnd cores) answer ts = ts
 
 -- the tables ever admitted, after a call
 abbrev pub nextAdmitted : Call → Answer → List TaskTable → List TaskTable
 nextAdmitted (admit bytes words cost) answer ts = ifAccepted answer (taskOf bytes cost ∷ ts) ts
 nextAdmitted (withdraw id) answer ts = ts
 nextAdmitted (ask cores) answer ts = ts
+nextAdmitted (askToEnd cores) answer ts = ts
 
 -- how things stand: the board, the tables standing on it, and all tables admitted so far
 pub record State : Type 0 where

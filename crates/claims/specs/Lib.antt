@@ -6,6 +6,7 @@ pub mod Board
 pub mod Admit
 pub mod Withdraw
 pub mod Ask
+pub mod ToEnd
 pub mod Print
 pub mod Diagram
 pub mod Cost

@@ -38,6 +38,10 @@ withPlan t words = frontWords t ++ nodeWords t ++ drop (3 + 3 * segmentCount t +
 abbrev pub exactOf : TaskTable → ℕ → Fraction
 exactOf t v = exactDensity (at (t .execution) v) (over t) (deadline t v)
 
+-- its deadline, unrounded: "every offset and deadline is a numerator over" Q
+abbrev pub exactDeadline : TaskTable → ℕ → Fraction
+exactDeadline t v = record { upper = deadline t v; lower = over t }
+
 -- r millionths are not below the fraction
 abbrev pub NotBelow : (r : ℕ) → Fraction → Type 0
 NotBelow r x = x .upper * 1000000 ≤ r * x .lower

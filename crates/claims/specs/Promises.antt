@@ -4,6 +4,7 @@ use Rattle.claims.specs.Plan.{OfPlanning}
 use Rattle.claims.specs.Admit.{OfAdmitting}
 use Rattle.claims.specs.Withdraw.{OfWithdrawing}
 use Rattle.claims.specs.Ask.{OfAsking}
+use Rattle.claims.specs.ToEnd.{OfAskingToEnd}
 use Rattle.claims.specs.Print.{OfPrinting}
 use Rattle.claims.specs.Diagram.{TablesTimed}
 use Rattle.claims.specs.Cost.{OfCost}
@@ -18,6 +19,7 @@ pub record Promises : Type 0 where
   pub admitting : OfAdmitting
   pub withdrawing : OfWithdrawing
   pub asking : OfAsking
+  pub asking-to-end : OfAskingToEnd
   pub printing : OfPrinting
   -- every loop-free table's starts, cuts and offsets are those of document 01
   pub tables-timed : TablesTimed

@@ -108,24 +108,25 @@ ownParent = 0x01 ∷ 0x05 ∷ 0x09 ∷ 0x01 ∷ 0x01 ∷ 0x01 ∷ 0x00 ∷ []
 abbrev pub eachOther : List ℕ
 eachOther = 0x01 ∷ 0x06 ∷ 0x09 ∷ 0x02 ∷ 0x01 ∷ 0x01 ∷ 0x01 ∷ 0x01 ∷ 0x01 ∷ 0x00 ∷ []
 
--- the starred tables, in document 01's order; 80 00 with the number that request a gives it, loops with their nodes as request m has them
+-- the starred tables, in document 01's order; 80 00 with the number that request a gives it, loops with their nodes as request m has them, rows with
+-- the figures of request f
 unfoldable pub starred : List Entry
 starred =
     plans oneNode (5 ∷ 1 ∷ 1 ∷ 1 ∷ 5 ∷ 25 ∷ 0 ∷ 25 ∷ 1000000 ∷ [])
     ∷ cuts oneNode (light ∷ [])
-    ∷ fills oneNode (record { id = 7; nodes = 1; sum = 1000000; largest = 1000000 })
+    ∷ fills oneNode (record { id = 7; nodes = 1; sum = 1000000; largest = 1000000; longest = 5; shortest = 25; over = 5 })
     ∷ answers (admitting oneNode ∷ []) 1 (accepted 1)
     ∷ refuses shortPeriod 11 0
     ∷ plans chain (3 ∷ 3 ∷ 3 ∷ 1 ∷ 1 ∷ 3 ∷ 1 ∷ 1 ∷ 3 ∷ 1 ∷ 1 ∷ 3 ∷ 0 ∷ 3 ∷ 1000000 ∷ 3 ∷ 3 ∷ 1000000 ∷ 6 ∷ 3 ∷ 1000000 ∷ [])
     ∷ cuts chain (light ∷ light ∷ light ∷ [])
-    ∷ fills chain (record { id = 8; nodes = 3; sum = 3000000; largest = 1000000 })
+    ∷ fills chain (record { id = 8; nodes = 3; sum = 3000000; largest = 1000000; longest = 1; shortest = 3; over = 3 })
     ∷ answers (admitting chain ∷ []) 1 (accepted 0)
     ∷ answers (admitting chain ∷ []) 3 (accepted 0)
     ∷ plans fourNodes (6 ∷ 2 ∷ 4 ∷ 1 ∷ 2 ∷ 6 ∷ 3 ∷ 1 ∷ 18 ∷ 0 ∷ 6 ∷ 2000000 ∷ 6 ∷ 18 ∷ 333334 ∷ 6 ∷ 18 ∷ 333334 ∷ 6 ∷ 18 ∷ 333334 ∷ [])
     ∷ cuts fourNodes (light ∷ heavy ∷ [])
     ∷ plans listing (5 ∷ 3 ∷ 3 ∷ 2 ∷ 1 ∷ 12 ∷ 2 ∷ 1 ∷ 12 ∷ 1 ∷ 1 ∷ 6 ∷ 0 ∷ 30 ∷ 500000 ∷ 0 ∷ 12 ∷ 416667 ∷ 12 ∷ 12 ∷ 416667 ∷ [])
     ∷ prints listing listingText
-    ∷ fills listing (record { id = 3; nodes = 3; sum = 1333334; largest = 500000 })
+    ∷ fills listing (record { id = 3; nodes = 3; sum = 1333334; largest = 500000; longest = 3; shortest = 12; over = 5 })
     ∷ answers (admitting listing ∷ []) 2 (accepted 1)
     ∷ answers (admitting listing ∷ []) 1 (accepted 0)
     ∷ goes-round ownParent 0 0b1

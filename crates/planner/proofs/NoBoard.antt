@@ -1,6 +1,6 @@
 -- Each call where the lent board doesn't have 16 rows: soundness begins with that number, so the board isn't sound, the call is refused as its rule says, and nothing is touched.
 use mathlib.Core.Path.{_≡_, refl, sym, ap, _∙_}
-use mathlib.Core.Bool.{false}
+use mathlib.Core.Bool.{Bool, false}
 use mathlib.Core.List.{List}
 use Prim.Native.Nat.{ℕ}
 use lib.ListN.{length}
@@ -15,14 +15,16 @@ use Rattle.boards.specs.declared.Row.{Row}
 use Rattle.boards.specs.declared.Change.{Change}
 use Rattle.boards.specs.Row.{rowsMax}
 use Rattle.boards.specs.Sound.{isSound}
-use Rattle.boards.specs.Change.{unchanged, changed, withdrawn, asked}
+use Rattle.boards.specs.Verdict.{verdict}
+use Rattle.overheads.specs.ToEnd.{verdictToEnd}
+use Rattle.boards.specs.Change.{unchanged, changed, withdrawn, beforeAsking, askedBy}
 use Rattle.plans.specs.Calls.{beforeReading}
 use Rattle.admissions.specs.Admission.{Admission, admission}
 use Rattle.admissions.specs.Inner.NoBoard.{noBoard}
 use Rattle.boards.proofs.Keeping.{refusal-kept}
 use Rattle.refusals.specs.After.{After}
 use Rattle.planner.specs.Calls.{Lent}
-use Rattle.planner.specs.Allows.{AdmitAllows, WithdrawAllows, AskAllows}
+use Rattle.planner.specs.Allows.{AdmitAllows, WithdrawAllows, AskAllows, AskToEndAllows}
 
 -- the board doesn't have 16 rows
 abbrev pub NoBoard : List Row → Type 0
@@ -50,9 +52,9 @@ withdrawn-none : (rows : List Row) (id : ℕ) → NoBoard rows → withdrawn row
 unfolding withdrawn
 withdrawn-none rows id none = simp (unsound rows none)
 
-asked-none : (rows : List Row) (cores : ℕ) → NoBoard rows → asked rows cores ≡ unsoundAnswer
-unfolding asked
-asked-none rows cores none = simp (unsound rows none)
+asked-none : (says : List Row → ℕ → Bool) (rows : List Row) (cores : ℕ) → NoBoard rows → askedBy says rows cores ≡ unsoundAnswer
+unfolding askedBy beforeAsking
+asked-none says rows cores none = simp (unsound rows none)
 
 admission-none : (bytes words : List ℕ) (rows : List Row) (cost : ℕ) → NoBoard rows → admission bytes words rows cost ≡ untouched words rows (noBoard (length words) cost)
 unfolding admission
@@ -67,7 +69,10 @@ withdraw-none rows id none =
     sym (ap (λ (c : Change). after (c .answer) (changed rows c)) (withdrawn-none rows id none) ∙ ap (after unsoundAnswer) (refusal-kept rows unsoundAnswer))
 
 pub ask-none : (rows : List Row) (cores : ℕ) → NoBoard rows → AskAllows rows cores (after unsoundAnswer rows)
-ask-none rows cores none = sym (ap (λ (a : Answer). after a rows) (asked-none rows cores none))
+ask-none rows cores none = sym (ap (λ (a : Answer). after a rows) (asked-none verdict rows cores none))
+
+pub ask-to-end-none : (rows : List Row) (cores : ℕ) → NoBoard rows → AskToEndAllows rows cores (after unsoundAnswer rows)
+ask-to-end-none rows cores none = sym (ap (λ (a : Answer). after a rows) (asked-none verdictToEnd rows cores none))
 
 pub admit-none : (bytes words : List ℕ) (rows : List Row) (cost : ℕ) → NoBoard rows → AdmitAllows bytes words rows cost (after (noBoard (length words) cost) (record { words = words; rows = rows }))
 admit-none bytes words rows cost none =

@@ -5,7 +5,7 @@ use Prim.Native.Nat.{ℕ}
 use Rattle.refusals.specs.After.{After}
 use Rattle.boards.specs.declared.Row.{Row}
 use Rattle.plans.specs.Calls.{planCall}
-use Rattle.planner.specs.Calls.{Lent, admitCall, withdrawCall, askCall}
+use Rattle.planner.specs.Calls.{Lent, admitCall, withdrawCall, askCall, askToEndCall}
 
 -- planning: its answer, and the words after it
 abbrev pub PlanAllows : (bytes words : List ℕ) (cost : ℕ) → After (List ℕ) → Type 0
@@ -22,3 +22,7 @@ WithdrawAllows rows id after = after ≡ withdrawCall rows id
 -- asking: its answer, and the rows, which are those before it
 abbrev pub AskAllows : (rows : List Row) (cores : ℕ) → After (List Row) → Type 0
 AskAllows rows cores after = after ≡ askCall rows cores
+
+-- asking to the end: likewise
+abbrev pub AskToEndAllows : (rows : List Row) (cores : ℕ) → After (List Row) → Type 0
+AskToEndAllows rows cores after = after ≡ askToEndCall rows cores

@@ -5,6 +5,7 @@ use Rattle.refusals.specs.After.{After}
 use Rattle.boards.specs.declared.Row.{Row}
 use Rattle.boards.specs.declared.Change.{Change}
 use Rattle.boards.specs.Change.{changed, withdrawn, asked}
+use Rattle.overheads.specs.ToEnd.{askedToEnd}
 use Rattle.admissions.specs.Admission.{Admission, admission}
 
 -- what admitting is lent: the plan's words and the board's rows
@@ -27,3 +28,7 @@ withdrawCall rows id =
 -- "asking returns yes or no and writes nothing"
 abbrev pub askCall : List Row → ℕ → After (List Row)
 askCall rows cores = record { answer = asked rows cores; lent = rows }
+
+-- the verdict for steps that run to their end, asked the same way
+abbrev pub askToEndCall : List Row → ℕ → After (List Row)
+askToEndCall rows cores = record { answer = askedToEnd rows cores; lent = rows }

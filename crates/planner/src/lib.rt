@@ -9,7 +9,7 @@ ghost use Prim.Native.Nat.{_<_};
 ghost use lib.ListN.{length};
 ghost use Rattle.boards.specs.Row.{rowsMax};
 ghost use Rattle.boards.specs.Change.{changed};
-ghost use Rattle.planner.specs.Allows.{PlanAllows, AdmitAllows, WithdrawAllows, AskAllows};
+ghost use Rattle.planner.specs.Allows.{PlanAllows, AdmitAllows, WithdrawAllows, AskAllows, AskToEndAllows};
 
 // The lent rows, by value.
 fn rows_of(board: &[Row]) -> Board
@@ -81,4 +81,15 @@ pub extern "C" fn planner_ask(board: &[Row], cores: u64) -> Answer
         return boards::unsound();
     }
     boards::asked(rows_of(board), cores)
+}
+
+// The verdict for a number of cores where steps run to their end, answered and lent as planner_ask.
+#[no_mangle]
+pub extern "C" fn planner_ask_to_end(board: &[Row], cores: u64) -> Answer
+    ensures { λ r. ⌜ AskToEndAllows (now (board .entry)) cores (record { answer = r; lent = now (board .entry) }) ⌝ }
+{
+    if board.len() != ROWS {
+        return boards::unsound();
+    }
+    overheads::asked_to_end(rows_of(board), cores)
 }

@@ -8,15 +8,19 @@ use lib.Seq.{getD-append-add}
 use Rattle.plain.specs.At.{at}
 use Rattle.tables.specs.declared.TaskTable.{TaskTable}
 use Rattle.segments.proofs.Segments.{segments-le}
-use Rattle.shares.proofs.Triples.{length-triples, third-of}
+use Rattle.shares.proofs.Triples.{length-triples, second-of, third-of}
 use Rattle.plans.specs.Diagram.{finish, segmentCount}
-use Rattle.plans.specs.Shares.{deadline, offset, density}
+use Rattle.plans.specs.Shares.{over, deadline, offset, density}
 use Rattle.plans.specs.Words.{wordCount, wordsMax, frontWords, nodeWords, written}
 use Rattle.plans.specs.Inner.Planned.{Planned}
 use Rattle.plans.proofs.Front.{length-front}
 
 module _ (t : TaskTable) (words : List ℕ) where
   -- the head
+  pub at-over : at (written t words) 0 ≡ over t
+  unfolding frontWords
+  at-over = refl
+
   pub at-segments : at (written t words) 1 ≡ segmentCount t
   unfolding frontWords
   at-segments = refl
@@ -40,16 +44,22 @@ module _ (t : TaskTable) (words : List ℕ) where
       let c = length-drop (wordCount (segmentCount t) (t .count)) words in
       omega arith
 
-  -- node v's density
-  pub at-density : (v : ℕ) → v < t .count → at (written t words) (3 + 3 * segmentCount t + (3 * v + 2)) ≡ density t v
-  unfolding nodeWords
-  at-density v l =
-      let k = 3 * v + 2 in
+  -- a word of the node part
+  at-node : (k : ℕ) → k < 3 * t .count → at (written t words) (3 + 3 * segmentCount t + k) ≡ at (nodeWords t) k
+  at-node k h =
       let e : 3 + 3 * segmentCount t + k ≡ length (frontWords t) + k = (let b = length-front t in omega arith) in
       List·getD-append (frontWords t ++ nodeWords t) (drop (wordCount (segmentCount t) (t .count)) words) 0 (3 + 3 * segmentCount t + k) (let b = length-plan in omega arith)
       ∙ ap (at (frontWords t ++ nodeWords t)) e
       ∙ getD-append-add (frontWords t) (nodeWords t) k 0
-      ∙ third-of (offset t) (deadline t) (density t) (t .count) v l
+
+  -- node v's deadline and density
+  pub at-deadline : (v : ℕ) → v < t .count → at (written t words) (3 + 3 * segmentCount t + (3 * v + 1)) ≡ deadline t v
+  unfolding nodeWords
+  at-deadline v l = at-node (3 * v + 1) (omega arith) ∙ second-of (offset t) (deadline t) (density t) (t .count) v l
+
+  pub at-density : (v : ℕ) → v < t .count → at (written t words) (3 + 3 * segmentCount t + (3 * v + 2)) ≡ density t v
+  unfolding nodeWords
+  at-density v l = at-node (3 * v + 2) (omega arith) ∙ third-of (offset t) (deadline t) (density t) (t .count) v l
 
 -- a table's plan has at most as many words as are asked for
 pub words-fit : {t : TaskTable} → Planned t → wordCount (segmentCount t) (t .count) ≤ wordsMax

@@ -3,7 +3,7 @@ use Prim.Native.Nat.{ℕ}
 use Rattle.plain.specs.At.{at}
 use Rattle.tables.specs.declared.TaskTable.{TaskTable}
 use Rattle.ways.specs.Ways.{begins, ends}
-use Rattle.ways.specs.Totals.{workOf, pathOf}
+use Rattle.ways.specs.Totals.{workOf, longestOf, pathOf}
 use Rattle.segments.specs.Cut.{segments, lengthOf}
 use Rattle.segments.specs.Running.{threads}
 
@@ -18,6 +18,10 @@ finish t v = at (ends (t .parents) (t .execution) (t .count)) v
 -- "Work C is the sum of executions"
 abbrev pub work : TaskTable → ℕ
 work t = workOf (t .execution) (t .count)
+
+-- "its longest execution"
+abbrev pub longest : TaskTable → ℕ
+longest t = longestOf (t .execution) (t .count)
 
 -- "path P the latest finish"
 abbrev pub path : TaskTable → ℕ

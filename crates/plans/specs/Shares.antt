@@ -6,6 +6,7 @@ use Rattle.ways.specs.Ways.{begins}
 use Rattle.shares.specs.declared.Deal.{Deal}
 use Rattle.shares.specs.Deal.{deal, numerator}
 use Rattle.shares.specs.Density.{millionths}
+use Rattle.shares.specs.Figures.{smallestTo}
 use Rattle.segments.specs.Share.{share}
 use Rattle.plans.specs.Diagram.{start, finish, work, path, segmentCount, threadsIn, lengthIn}
 
@@ -24,6 +25,10 @@ numeratorOf t j = numerator (dealOf t) (t .period) (work t) (path t) (threadsIn 
 -- "A node's deadline numerator is the sum over the segments it runs in"
 unfoldable pub deadline : TaskTable → ℕ → ℕ
 deadline t v = share (t .count) (start t) (finish t) (numeratorOf t) v
+
+-- "its smallest deadline numerator", of the nodes that run: a join's is 0, and 0 is none
+unfoldable pub shortest : TaskTable → ℕ
+shortest t = smallestTo (t .count) (deadline t)
 
 -- "Its offset is 0 without parents, else the greatest parent's offset plus deadline": the begin of longest ways over deadlines
 unfoldable pub offset : TaskTable → ℕ → ℕ

@@ -94,11 +94,26 @@ fn write_nodes<'a>(
     from + 3 * n
 }
 
-// What planning a table comes to: the answer, and where that is no refusal, the table's work and path.
+// What planning a table comes to: the answer, and where that is no refusal, the table's work, path and longest execution.
 pub struct Planning {
     pub answer: Answer,
     pub work: u64,
     pub path: u64,
+    pub longest: u64,
+}
+
+impl Planning {
+    // A refusal: nothing is told beside it.
+    fn refused(answer: Answer) -> Self
+        ensures { λ r. ⌜ r .answer ≡ answer ⌝ }
+    {
+        Self {
+            answer,
+            work: 0,
+            path: 0,
+            longest: 0,
+        }
+    }
 }
 
 // The plan of a table with a cost: 10, 11, then the answer of the caller's later rules, as 12 and 13 of an admission, and only then are words written.
@@ -129,17 +144,20 @@ pub fn plan_table(words: &mut [u64], table: TaskTable, cost: u64, later: Answer)
         &execution,
         n,
     );
-    let path = swept.cut.time;
     let answer = tested(&parents, swept, n, period, later);
-    let work = 0;
     if answer.refusal != 0 {
-        return Planning { answer, work, path };
+        return Planning::refused(answer);
     }
-    let work = ways::work_of(&execution, n);
+    let weighed = ways::weigh(&execution, n);
+    let work = weighed.work;
     write_segments(words, &threads, &enders, &finishes, swept, n, period, work);
     let count = write_nodes(words, &first, &last, &execution, n);
-    let answer = Answer::accepted(count as u64);
-    Planning { answer, work, path }
+    Planning {
+        answer: Answer::accepted(count as u64),
+        work,
+        path: swept.cut.time,
+        longest: weighed.longest,
+    }
 }
 
 // Plans the task of a record, each step with the cost, into the words; the answer's value is the number of words.

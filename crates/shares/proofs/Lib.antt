@@ -4,6 +4,7 @@ pub mod Heavies
 pub mod Deals
 pub mod Fair
 pub mod Densities
+pub mod Smallest
 pub mod Holding
 pub mod Triples
 pub mod Numbering

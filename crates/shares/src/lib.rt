@@ -10,7 +10,7 @@ ghost use Rattle.shares.specs.Heavy.{isHeavy};
 ghost use Rattle.shares.specs.Inner.Kinds.{kinds};
 ghost use Rattle.shares.specs.Deal.{deal, numerator};
 ghost use Rattle.shares.specs.Density.{millionths};
-ghost use Rattle.shares.specs.Figures.{figures};
+ghost use Rattle.shares.specs.Figures.{figures, smaller, smallestTo};
 ghost use Rattle.shares.specs.Inner.Words.{threadsAt, lengthAt, numeratorAt};
 ghost use Rattle.shares.specs.Triples.{triples};
 ghost use Rattle.shares.specs.Inner.Spans.{offsetBy, spanBy};
@@ -198,4 +198,31 @@ pub fn figures_of(nodes: &[u64], n: usize) -> Figures
         v += 1;
     }
     Figures { sum, largest }
+}
+
+// The smaller of two deadlines; 0 is none.
+fn smaller(a: u64, b: u64) -> u64
+    ensures { λ r. ⌜ r ≡ smaller a b ⌝ }
+{
+    if a == 0 {
+        return b;
+    }
+    if b == 0 {
+        return a;
+    }
+    if a < b { a } else { b }
+}
+
+// The smallest deadline of a task's n nodes, from the node words of its plan; a join has none.
+pub fn shortest_of(nodes: &[u64], n: usize) -> u64
+    requires { ⌜ (n ≤ countMax) × (3 * n ≤ length (now nodes)) ⌝ }
+    ensures { λ r. ⌜ r ≡ smallestTo n (λ v. at (now (nodes .entry)) (3 * v + 1)) ⌝ }
+{
+    let mut shortest: u64 = 0;
+    let mut v: usize = 0;
+    while v < n {
+        shortest = smaller(shortest, nodes[3 * v + 1]);
+        v += 1;
+    }
+    shortest
 }

@@ -1,7 +1,8 @@
-// Runs the tables of document 01 that are not proved, tables with a cost, and the records on which a tired planner's slips would show; prints a
-// line for each.
+// Runs the tables of document 01 that are not proved, tables with a cost, tables of steps that run to their end, and the records on which a tired
+// planner's slips would show; prints a line for each.
 use boards::Board;
 use libc::STDOUT_FILENO;
+use refusals::Answer;
 
 // A table's name, and whether it came out as worked by hand.
 fn say(name: &[u8], right: bool) {
@@ -73,13 +74,27 @@ fn round(name: &[u8], record: &[u8], node: u64, ring: u64) {
     );
 }
 
+// The board with this record's task, admitted with a cost.
+fn admitted(board: Board, record: &[u8], cost: u64) -> Board {
+    let mut words = [0u64; plans::WORDS_MAX];
+    let change = admissions::admission(record, &mut words, board, cost);
+    boards::with_row(board, change.at, change.row)
+}
+
+// A verdict that is yes or no, as expected.
+fn told(name: &[u8], answer: Answer, yes: u64) {
+    say(name, answer.refusal == 0 && answer.value == yes);
+}
+
 // The verdict for a board that holds this record's task alone, admitted with a cost.
 fn alone(name: &[u8], record: &[u8], cost: u64, cores: u64, yes: u64) {
-    let mut words = [0u64; plans::WORDS_MAX];
-    let change = admissions::admission(record, &mut words, Board::empty(), cost);
-    let board = boards::with_row(Board::empty(), change.at, change.row);
-    let answer = boards::asked(board, cores);
-    say(name, answer.refusal == 0 && answer.value == yes);
+    let board = admitted(Board::empty(), record, cost);
+    told(name, boards::asked(board, cores), yes);
+}
+
+// The verdict for a board whose steps run to their end.
+fn to_end(name: &[u8], board: Board, cores: u64, yes: u64) {
+    told(name, overheads::asked_to_end(board, cores), yes);
 }
 
 // A withdrawal from the empty board.
@@ -360,6 +375,77 @@ fn cost_verdicts() {
     );
 }
 
+// Steps that run to their end, a task alone: r is its longest execution over its shortest deadline.
+fn alone_to_end() {
+    to_end(
+        b"an empty board: yes to the end on 1 core",
+        Board::empty(),
+        1,
+        1,
+    );
+    to_end(b"and on 64", Board::empty(), 64, 1);
+    let long = admitted(Board::empty(), b"\x01\x07\xe8\x07\x01\x05\x00", 0);
+    to_end(
+        b"5 in 1,000: r is 5,000, yes to the end on 1 core",
+        long,
+        1,
+        1,
+    );
+    let half = admitted(Board::empty(), b"\x01\x07\x0a\x01\x05\x00", 0);
+    to_end(
+        b"5 in 10: r is 500,000, yes to the end on 1 core",
+        half,
+        1,
+        1,
+    );
+    let tight = admitted(Board::empty(), b"\x01\x07\x09\x01\x05\x00", 0);
+    to_end(b"5 in 9: no to the end on 1 core", tight, 1, 0);
+    let listing = admitted(
+        Board::empty(),
+        b"\x01\x03\x06\x03\x03\x00\x01\x00\x01\x01\x01",
+        0,
+    );
+    to_end(
+        b"the listing: r is 1,250,000, no to the end on 2 cores",
+        listing,
+        2,
+        0,
+    );
+    to_end(b"and on 64", listing, 64, 0);
+}
+
+// The slips of that verdict: a join counted, the longest and the shortest of one task alone, r rounded down.
+fn to_end_slips() {
+    alone(
+        b"a task with a join: yes on 4 cores",
+        b"\x02\x09\x0a\x04\x02\x00\x04\x00\x00\x02\x00\x01\x01\x01\x02",
+        0,
+        4,
+        1,
+    );
+    let joined = admitted(
+        Board::empty(),
+        b"\x02\x09\x0a\x04\x02\x00\x04\x00\x00\x02\x00\x01\x01\x01\x02",
+        0,
+    );
+    to_end(
+        b"a join has no deadline to be the shortest: no to the end",
+        joined,
+        4,
+        0,
+    );
+    let one = admitted(Board::empty(), b"\x01\x01\x0c\x01\x03\x00", 0);
+    to_end(b"3 in 12 alone: yes to the end on 1 core", one, 1, 1);
+    let both = admitted(one, b"\x01\x02\x0f\x01\x05\x00", 0);
+    to_end(
+        b"with 5 in 15: 5 over 12, rounded up, no to the end on 1 core",
+        both,
+        1,
+        0,
+    );
+    to_end(b"and yes on 2", both, 2, 1);
+}
+
 // The slips of a board, of a reader, and of a loop.
 fn other_slips() {
     not_withdrawn(b"id 0 finds no free row to withdraw", 0);
@@ -397,5 +483,7 @@ fn main() {
     join_slips();
     cost_slips();
     cost_verdicts();
+    alone_to_end();
+    to_end_slips();
     other_slips();
 }

@@ -123,16 +123,20 @@ impl Chance {
     }
 }
 
-/// A board with the ids 1 to that number standing in its first rows.
+/// A board with the ids 1 to that number standing in its first rows. Deadlines
+/// are about 10,000, each over a Q of its own.
 pub fn board(standing: u64) -> [Row; 16] {
     let row = |at| Row {
-        id: at as u64 + 1,
+        id: at + 1,
         nodes: 16,
         sum: 900_000,
         largest: 90_000,
+        longest: 900,
+        shortest: 160_000_000 + 7_919 * at,
+        over: 16_000 + at,
     };
     std::array::from_fn(|at| match (at as u64) < standing {
-        true => row(at),
+        true => row(at as u64),
         false => Row::default(),
     })
 }

@@ -166,4 +166,13 @@ fn asking() {
         },
     );
     line("ask, full board", time);
+    let time = pair(
+        || {
+            black_box(ffi::ask_to_end(black_box(&rows), black_box(16)));
+        },
+        || {
+            black_box(reference::ask_to_end(black_box(&rows), black_box(16)));
+        },
+    );
+    line("ask to the end, full board", time);
 }

@@ -101,6 +101,10 @@ fn board_depths() {
         black_box(reference::withdraw(black_box(&mut rows), black_box(16)));
     });
     line("withdraw", library, reference);
+    ask_depths();
+}
+
+fn ask_depths() {
     let rows = board(16);
     let library = depth(&mut || {
         black_box(ffi::ask(black_box(&rows), black_box(16)));
@@ -109,6 +113,13 @@ fn board_depths() {
         black_box(reference::ask(black_box(&rows), black_box(16)));
     });
     line("ask", library, reference);
+    let library = depth(&mut || {
+        black_box(ffi::ask_to_end(black_box(&rows), black_box(16)));
+    });
+    let reference = depth(&mut || {
+        black_box(reference::ask_to_end(black_box(&rows), black_box(16)));
+    });
+    line("ask to the end", library, reference);
 }
 
 fn deepest(records: &[Vec<u8>], mut call: impl FnMut(&[u8]) + Send) -> usize {

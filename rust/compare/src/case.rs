@@ -11,13 +11,21 @@ pub enum Call {
     Admit(Vec<u8>, u64),
     Withdraw(u64),
     Ask(u64),
+    AskToEnd(u64),
 }
 
 impl Call {
+    pub const ASKS: [fn(u64) -> Call; 2] = [Call::Ask, Call::AskToEnd];
+
     /// Planned, then admitted.
     pub fn both(record: &[u8], cost: u64) -> [Call; 2] {
         let record = record.to_vec();
         [Call::Plan(record.clone(), cost), Call::Admit(record, cost)]
+    }
+
+    /// For both verdicts.
+    pub fn asks(cores: u64) -> [Call; 2] {
+        Call::ASKS.map(|ask| ask(cores))
     }
 }
 
@@ -40,12 +48,13 @@ pub struct Difference {
     pub broken: Option<&'static str>,
 }
 
-/// The four calls of one side.
+/// The five calls of one side.
 struct Planner {
     plan: fn(&[u8], &mut [u64], u64) -> Answer,
     admit: fn(&[u8], &mut [u64], &mut [Row], u64) -> Answer,
     withdraw: fn(&mut [Row], u64) -> Answer,
     ask: fn(&[Row], u64) -> Answer,
+    ask_to_end: fn(&[Row], u64) -> Answer,
 }
 
 const LIBRARY: Planner = Planner {
@@ -53,6 +62,7 @@ const LIBRARY: Planner = Planner {
     admit: ffi::admit,
     withdraw: ffi::withdraw,
     ask: ffi::ask,
+    ask_to_end: ffi::ask_to_end,
 };
 
 const REFERENCE: Planner = Planner {
@@ -60,6 +70,7 @@ const REFERENCE: Planner = Planner {
     admit: reference::admit,
     withdraw: reference::withdraw,
     ask: reference::ask,
+    ask_to_end: reference::ask_to_end,
 };
 
 pub fn difference(case: &Case) -> Option<Difference> {
@@ -98,6 +109,9 @@ impl Lent {
             nodes: post,
             sum: post,
             largest: post,
+            longest: post,
+            shortest: post,
+            over: post,
         };
         Lent {
             words: Fenced::new(&case.words, post),
@@ -118,6 +132,7 @@ impl Lent {
             Call::Admit(_, cost) => (by.admit)(self.record.inside(), words, board, cost),
             Call::Withdraw(id) => (by.withdraw)(board, id),
             Call::Ask(cores) => (by.ask)(board, cores),
+            Call::AskToEnd(cores) => (by.ask_to_end)(board, cores),
         }
     }
 

@@ -51,7 +51,8 @@ pub fn any_call(random: &mut Random) -> Call {
         0 | 1 => Call::Withdraw(random.pick(&[id, id, id, id, id, 65_535, 65_536, any])),
         2 | 3 => {
             let cores = random.between(0, 66);
-            Call::Ask(random.pick(&[cores, cores, cores, cores, any]))
+            let cores = random.pick(&[cores, cores, cores, cores, any]);
+            random.pick(&Call::ASKS)(cores)
         }
         4 => Call::Plan(any_record(random, cost), cost),
         _ if random.one_in(6) => Call::Admit(any_record(random, cost), cost),
@@ -68,6 +69,7 @@ pub fn any_call(random: &mut Random) -> Call {
 pub fn board_calls(random: &mut Random, cost: u64) -> Vec<Call> {
     let mut calls = vec![
         Call::Ask(random.between(0, 65)),
+        Call::AskToEnd(random.between(0, 65)),
         Call::Withdraw(random.between(0, 25)),
         Call::Admit(any_record(random, cost), cost),
         any_call(random),

@@ -27,7 +27,8 @@ fn visits(task: &Task, costs: impl IntoIterator<Item = u64>) -> Vec<Call> {
     let mut calls = Vec::new();
     for cost in costs {
         calls.extend(Call::both(&task.record(), cost));
-        calls.extend([Call::Ask(cost % 64 + 1), Call::Withdraw(task.id)]);
+        calls.extend(Call::asks(cost % 64 + 1));
+        calls.push(Call::Withdraw(task.id));
     }
     calls
 }
@@ -118,7 +119,7 @@ fn together(random: &mut Random) -> Vec<Call> {
         task.id = id;
         calls.push(Call::Admit(task.record(), any_cost(random)));
     }
-    calls.extend((1..=64).map(Call::Ask));
+    calls.extend((1..=64).flat_map(Call::asks));
     calls
 }
 
@@ -166,6 +167,9 @@ fn boards() -> [Vec<Row>; 6] {
         nodes: 1,
         sum: 500_000,
         largest: 500_000,
+        longest: 5,
+        shortest: 50,
+        over: 5,
     };
     let rows: Vec<Row> = (1..=17).map(row).collect();
     let twice = [&rows[..15], &rows[..1]].concat();

@@ -13,6 +13,7 @@ use crate::records::{
     spoilt, with_form, WORKED,
 };
 use crate::tasks::{random_task, task_of};
+use crate::to_end::tight_to_end;
 use ffi::task::{chain, Task};
 use reference::{Row, PLAN_WORDS};
 use std::io::{self, Write};
@@ -31,6 +32,12 @@ pub struct Run {
 }
 
 type Outcome = Result<(), Found>;
+
+/// Boards whose verdict turns at a number of cores, and the call to ask for it.
+type Turn = (fn(&mut Random, u64) -> Vec<Row>, fn(u64) -> Call);
+
+const VERDICT: Turn = (tight_board, Call::Ask);
+const VERDICT_TO_END: Turn = (tight_to_end, Call::AskToEnd);
 
 impl Run {
     /// A run that goes on by chance until so many cases are compared.
@@ -58,6 +65,7 @@ impl Run {
         self.family("board lengths", Run::board_lengths)?;
         self.family("board rows", Run::board_rows)?;
         self.family("verdicts", Run::verdicts)?;
+        self.family("verdicts to the end", Run::verdicts_to_end)?;
         self.family("sequences", Run::sequences)?;
         self.family("by chance", Run::by_chance)
     }
@@ -117,7 +125,7 @@ impl Run {
         for record in WORKED {
             for cost in COSTS {
                 let mut calls = Call::both(record, cost).to_vec();
-                calls.extend((0..=66).map(Call::Ask));
+                calls.extend((0..=66).flat_map(Call::asks));
                 calls.extend([0, 3, 7, 9, 65_535, 65_536].map(Call::Withdraw));
                 self.on_board(free_board(), calls)?;
             }
@@ -243,13 +251,13 @@ impl Run {
                 let record = task.record();
                 let followed = [&record[..], &[0]].concat();
                 let refused = self.random.pick(&REFUSED);
-                let calls = vec![
+                let mut calls = vec![
                     Call::Plan(record.clone(), cost),
                     Call::Plan(followed, cost),
                     Call::Admit(record.clone(), refused),
                     Call::Admit(record, cost),
-                    Call::Ask(self.random.between(1, 64)),
                 ];
+                calls.extend(Call::asks(self.random.between(1, 64)));
                 self.on_board(free_board(), calls)?;
             }
         }
@@ -298,7 +306,7 @@ impl Run {
     fn board_rows(&mut self) -> Outcome {
         for spoil in SPOILS {
             for at in 0..16 {
-                for cost in COSTS.repeat(2) {
+                for cost in COSTS {
                     let mut board = random_board(&mut self.random);
                     spoil(&mut board[at]);
                     let calls = board_calls(&mut self.random, cost);
@@ -309,18 +317,30 @@ impl Run {
         Ok(())
     }
 
-    /// Before a task is admitted, and after.
     fn verdicts(&mut self) -> Outcome {
+        self.turns(VERDICT)
+    }
+
+    fn verdicts_to_end(&mut self) -> Outcome {
+        self.turns(VERDICT_TO_END)
+    }
+
+    fn turns(&mut self, turn: Turn) -> Outcome {
         for cores in 1..=64 {
             for cost in COSTS.repeat(6) {
-                let board = tight_board(&mut self.random, cores);
-                let asks = [cores - 1, cores, cores + 1].map(Call::Ask);
-                let admit = Call::Admit(any_record(&mut self.random, cost), cost);
-                let calls = [&asks[..], &[admit], &asks].concat();
-                self.on_board(board, calls)?;
+                self.turn(turn, cores, cost)?;
             }
         }
         Ok(())
+    }
+
+    /// Before a task is admitted, and after.
+    fn turn(&mut self, (tight, ask): Turn, cores: u64, cost: u64) -> Outcome {
+        let board = tight(&mut self.random, cores);
+        let asks = [cores - 1, cores, cores + 1].map(ask);
+        let admit = Call::Admit(any_record(&mut self.random, cost), cost);
+        let calls = [&asks[..], &[admit], &asks].concat();
+        self.on_board(board, calls)
     }
 
     fn sequences(&mut self) -> Outcome {
@@ -353,7 +373,12 @@ impl Run {
                 let calls = board_calls(random, cost);
                 self.on_board(board, calls)
             }
-            9..=16 => {
+            9 => {
+                let turn = random.pick(&[VERDICT, VERDICT_TO_END]);
+                let cores = random.between(1, 64);
+                self.turn(turn, cores, cost)
+            }
+            10..=16 => {
                 let bytes = random_bytes(random);
                 self.plan_at(bytes, cost)
             }

@@ -17,6 +17,7 @@ mod rounds;
 mod shrink;
 mod stored;
 mod tasks;
+mod to_end;
 
 use families::Run;
 use std::env;

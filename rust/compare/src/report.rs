@@ -53,6 +53,7 @@ fn text(call: &Call) -> String {
         Call::Admit(record, cost) => format!("admit at cost {cost}, {}", bytes(record)),
         Call::Withdraw(id) => format!("withdraw {id}"),
         Call::Ask(cores) => format!("ask {cores}"),
+        Call::AskToEnd(cores) => format!("ask to the end {cores}"),
     }
 }
 

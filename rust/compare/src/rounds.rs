@@ -35,7 +35,7 @@ fn nodes(call: &Call) -> Vec<Node> {
         Call::Plan(record, _) | Call::Admit(record, _) => {
             Draft::read(record).map_or(vec![], |draft| draft.task.nodes)
         }
-        Call::Withdraw(_) | Call::Ask(_) => vec![],
+        Call::Withdraw(_) | Call::Ask(_) | Call::AskToEnd(_) => vec![],
     }
 }
 

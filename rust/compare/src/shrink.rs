@@ -68,12 +68,9 @@ fn drop_calls(case: &mut Case) {
 
 fn shrink_call(case: &mut Case, at: usize) {
     match case.calls[at].clone() {
-        Call::Withdraw(id) => lower(id, |id| {
-            keeps(case, |case| case.calls[at] = Call::Withdraw(id))
-        }),
-        Call::Ask(cores) => lower(cores, |cores| {
-            keeps(case, |case| case.calls[at] = Call::Ask(cores))
-        }),
+        Call::Withdraw(id) => lower_number(case, at, id, Call::Withdraw),
+        Call::Ask(cores) => lower_number(case, at, cores, Call::Ask),
+        Call::AskToEnd(cores) => lower_number(case, at, cores, Call::AskToEnd),
         Call::Plan(_, cost) | Call::Admit(_, cost) => {
             lower(cost, |cost| {
                 keeps(case, |case| *record_and_cost(case, at).1 = cost)
@@ -84,10 +81,19 @@ fn shrink_call(case: &mut Case, at: usize) {
     }
 }
 
+/// Of a call that takes nothing but a number beside the board.
+fn lower_number(case: &mut Case, at: usize, number: u64, call: fn(u64) -> Call) {
+    lower(number, |number| {
+        keeps(case, |case| case.calls[at] = call(number))
+    });
+}
+
 fn record_and_cost(case: &mut Case, at: usize) -> (&mut Vec<u8>, &mut u64) {
     match &mut case.calls[at] {
         Call::Plan(record, cost) | Call::Admit(record, cost) => (record, cost),
-        Call::Withdraw(_) | Call::Ask(_) => unreachable!("this call has no record"),
+        Call::Withdraw(_) | Call::Ask(_) | Call::AskToEnd(_) => {
+            unreachable!("this call has no record")
+        }
     }
 }
 
@@ -150,26 +156,41 @@ fn shrink_task(case: &mut Case, at: usize) {
     }
 }
 
+const ROW_FIELDS: [fn(&mut Row) -> &mut u64; 7] = [
+    |row| &mut row.id,
+    |row| &mut row.nodes,
+    |row| &mut row.sum,
+    |row| &mut row.largest,
+    |row| &mut row.longest,
+    |row| &mut row.shortest,
+    |row| &mut row.over,
+];
+
 fn shrink_board(case: &mut Case) {
     drop_parts(case.board.len(), |first, length| {
         keeps(case, |case| drop(case.board.drain(first..first + length)))
     });
-    let fields: [fn(&mut Row) -> &mut u64; 4] = [
-        |row| &mut row.id,
-        |row| &mut row.nodes,
-        |row| &mut row.sum,
-        |row| &mut row.largest,
-    ];
     for at in 0..case.board.len() {
         if case.board[at] == Row::default() || keeps(case, |case| case.board[at] = Row::default()) {
             continue;
         }
-        for field in fields {
+        lower(case.board[at].over, |over| {
+            keeps(case, |case| scale(&mut case.board[at], over))
+        });
+        for field in ROW_FIELDS {
             lower(*field(&mut case.board[at]), |value| {
                 keeps(case, |case| *field(&mut case.board[at]) = value)
             });
         }
     }
+}
+
+/// Leaves the deadline about as it is: a Q lowered by itself would take the
+/// numerator after it in tiny steps.
+fn scale(row: &mut Row, over: u64) {
+    let shortest = u128::from(row.shortest) * u128::from(over);
+    row.shortest = shortest.div_ceil(u128::from(row.over)) as u64;
+    row.over = over;
 }
 
 fn shrink_words(case: &mut Case) {

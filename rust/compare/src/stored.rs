@@ -59,7 +59,8 @@ fn line(record: &[u8]) -> String {
 /// What no plan would write.
 const OLD: u64 = 0xA5A5_A5A5_A5A5_A5A5;
 
-/// The answer, the words and the rows of admitting to an empty board.
+/// The answer, the words and the rows of admitting to an empty board; of a row
+/// the figures that it had when the answers were stored.
 fn admitted(record: &[u8]) -> Vec<u64> {
     let mut words = [OLD; PLAN_WORDS + 1];
     let mut board = [Row::default(); 16];

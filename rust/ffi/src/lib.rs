@@ -1,4 +1,4 @@
-//! The proved library's C interface as four ordinary calls, so that it can
+//! The proved library's C interface as five ordinary calls, so that it can
 //! stand wherever the reference can; and the tasks both programs feed to it.
 
 pub mod task;
@@ -27,6 +27,7 @@ extern "C" {
     ) -> Answer;
     fn planner_withdraw(board: *mut Row, rows: usize, id: u64) -> Answer;
     fn planner_ask(board: *const Row, rows: usize, cores: u64) -> Answer;
+    fn planner_ask_to_end(board: *const Row, rows: usize, cores: u64) -> Answer;
 }
 
 pub fn plan(record: &[u8], words: &mut [u64], cost: u64) -> Answer {
@@ -50,4 +51,9 @@ pub fn withdraw(board: &mut [Row], id: u64) -> Answer {
 pub fn ask(board: &[Row], cores: u64) -> Answer {
     // SAFETY: pointer and length are one slice's, which is only read.
     unsafe { planner_ask(board.as_ptr(), board.len(), cores) }
+}
+
+pub fn ask_to_end(board: &[Row], cores: u64) -> Answer {
+    // SAFETY: pointer and length are one slice's, which is only read.
+    unsafe { planner_ask_to_end(board.as_ptr(), board.len(), cores) }
 }

@@ -1,38 +1,13 @@
-//! The board of standing tasks and the verdict on it.
+//! The board of standing tasks and the verdicts on it.
+
+use std::cmp::Ordering;
 
 use crate::plan::MILLION;
-use crate::record::Table;
 use crate::refusal::{Refusal, Rule};
+use crate::row::Row;
 
 pub const ROWS: usize = 16;
-const LARGEST_DENSITY: u64 = 2_000_000;
 const LARGEST_CORES: u64 = 64;
-
-/// A standing task; all zeros when free.
-#[repr(C)]
-#[derive(Clone, Copy, Debug, Default, PartialEq, Eq)]
-pub struct Row {
-    pub id: u64,
-    pub nodes: u64,
-    pub sum: u64,
-    pub largest: u64,
-}
-
-impl Row {
-    fn is_free(&self) -> bool {
-        *self == Row::default()
-    }
-
-    /// The limits on nodes and largest come first: they keep the product small.
-    fn is_sound(&self) -> bool {
-        self.is_free()
-            || (1..=Table::LARGEST_ID).contains(&self.id)
-                && (1..=Table::LARGEST_COUNT as u64).contains(&self.nodes)
-                && (1..=LARGEST_DENSITY).contains(&self.largest)
-                && self.largest <= self.sum
-                && self.sum <= self.nodes * self.largest
-    }
-}
 
 /// Refusal 17; a sound board has 16 rows.
 pub fn sound(board: &[Row]) -> Result<&[Row; ROWS], Refusal> {
@@ -74,12 +49,47 @@ pub fn find(rows: &[Row; ROWS], id: u64) -> Result<usize, Refusal> {
         .ok_or(Rule::NotStanding.into())
 }
 
-/// Whether S + (m - 1) x M <= m x 1,000,000; refusal 15.
+/// Whether S + (m - 1) x M <= m x 1,000,000.
 pub fn verdict(rows: &[Row; ROWS], cores: u64) -> Result<bool, Refusal> {
+    allowed(cores)?;
+    Ok(load(rows, cores) <= cores * MILLION)
+}
+
+/// Whether S + (m - 1) x M + m x r <= m x 1,000,000.
+pub fn verdict_to_end(rows: &[Row; ROWS], cores: u64) -> Result<bool, Refusal> {
+    allowed(cores)?;
+    Ok(load(rows, cores) + cores * overhead(rows) <= cores * MILLION)
+}
+
+/// Refusal 15.
+fn allowed(cores: u64) -> Result<(), Refusal> {
     if !(1..=LARGEST_CORES).contains(&cores) {
         return Err(Rule::Cores.into());
     }
+    Ok(())
+}
+
+/// S + (m - 1) x M.
+fn load(rows: &[Row; ROWS], cores: u64) -> u64 {
     let sum: u64 = rows.iter().map(|row| row.sum).sum();
     let largest = rows.iter().map(|row| row.largest).fold(0, u64::max);
-    Ok(sum + (cores - 1) * largest <= cores * MILLION)
+    sum + (cores - 1) * largest
+}
+
+/// r, in millionths rounded up: the longest execution over the shortest
+/// deadline, which may be of another task; 0 on an empty board.
+fn overhead(rows: &[Row; ROWS]) -> u64 {
+    let longest = rows.iter().map(|row| row.longest).fold(0, u64::max);
+    let standing = rows.iter().filter(|row| !row.is_free());
+    standing.min_by(by_deadline).map_or(0, |row| {
+        (longest * row.over * MILLION).div_ceil(row.shortest)
+    })
+}
+
+/// The order of shortest over Q: a/b against c/d is a x d against c x b, and
+/// these take more than 64 bits.
+fn by_deadline(one: &&Row, other: &&Row) -> Ordering {
+    let product = |a: u64, b: u64| u128::from(a) * u128::from(b);
+    let crosswise = product(other.shortest, one.over);
+    product(one.shortest, other.over).cmp(&crosswise)
 }

@@ -1,5 +1,5 @@
 //! Document 01, as the requests of document 02 change it, in plain Rust: the
-//! four public calls and the printed sheet.
+//! five public calls and the printed sheet.
 //!
 //! Written from the documents alone, but for which loop is shown (the choice
 //! is docs/PROTOCOL.md's), so that an answer of the proved library can be held
@@ -12,14 +12,15 @@ mod plan;
 mod record;
 mod refusal;
 mod ring;
+mod row;
 mod sheet;
 mod timing;
 
-pub use board::Row;
 pub use plan::PLAN_WORDS;
+pub use row::Row;
 pub use sheet::sheet;
 
-use board::{find, free_row, sound, verdict, ROWS};
+use board::{find, free_row, sound, verdict, verdict_to_end, ROWS};
 use plan::{lent_words, write_plan};
 use record::Table;
 use refusal::{Refusal, Rule};
@@ -78,6 +79,15 @@ pub fn ask(board: &[Row], cores: u64) -> Answer {
         .into()
 }
 
+/// Whether they pass the test for steps that, once begun, run to their end:
+/// document 000, Theorem 6.
+pub fn ask_to_end(board: &[Row], cores: u64) -> Answer {
+    sound(board)
+        .and_then(|rows| verdict_to_end(rows, cores))
+        .map(u64::from)
+        .into()
+}
+
 fn planned(record: &[u8], words: &mut [u64], cost: u64) -> Result<u64, Refusal> {
     allowed(cost)?;
     let words = lent_words(words)?;
@@ -102,13 +112,7 @@ fn admitted(
     table.pay(cost);
     let timing = Timing::of(&table)?;
     let row = free_row(rows, table.id)?;
-    let written = write_plan(&table, &timing, words);
-    board[row] = Row {
-        id: table.id,
-        nodes: table.count as u64,
-        sum: written.sum,
-        largest: written.largest,
-    };
+    board[row] = write_plan(&table, &timing, words).row;
     Ok(row as u64)
 }
 

@@ -2,6 +2,7 @@
 
 use crate::record::Table;
 use crate::refusal::{Refusal, Rule};
+use crate::row::Row;
 use crate::timing::{Segment, Timing};
 
 /// Words before the first segment: Q, segment count, node count.
@@ -13,11 +14,10 @@ pub const PLAN_WORDS: usize = HEAD + 6 * Table::LARGEST_COUNT;
 /// Densities and the verdict count in millionths.
 pub const MILLION: u64 = 1_000_000;
 
-/// The number of words a plan took, and its densities for the board's row.
+/// The number of words a plan took, and the row its task takes on a board.
 pub struct Written {
     pub words: u64,
-    pub sum: u64,
-    pub largest: u64,
+    pub row: Row,
 }
 
 /// Refusal 16.
@@ -33,11 +33,9 @@ pub fn write_plan(table: &Table, timing: &Timing, words: &mut [u64; PLAN_WORDS])
     head.copy_from_slice(&[shares.over, segments as u64, table.count as u64]);
     let (segment_part, node_part) = rest.split_at_mut(3 * segments);
     let ends = write_segments(timing, &shares, segment_part);
-    let (sum, largest) = write_nodes(table, timing, shares.over, &ends, node_part);
     Written {
         words: (HEAD + 3 * segments + 3 * table.count) as u64,
-        sum,
-        largest,
+        row: write_nodes(table, timing, shares.over, &ends, node_part),
     }
 }
 
@@ -59,25 +57,30 @@ fn write_segments(timing: &Timing, shares: &Shares, words: &mut [u64]) -> Ends {
 /// A node's deadline is the sum over its run of segments, so the difference
 /// of two ends. Its offset is the end before its run: a parent's offset plus
 /// deadline is the end of the parent's run, and the latest parent's run goes up
-/// to the node's. A join's run is empty, and its density is 0 over 1.
-fn write_nodes(
-    table: &Table,
-    timing: &Timing,
-    over: u64,
-    ends: &Ends,
-    words: &mut [u64],
-) -> (u64, u64) {
-    let mut sum = 0;
-    let mut largest = 0;
+/// to the node's. A join's run is empty: its density is 0 over 1, and it is left
+/// out of the row's shortest.
+fn write_nodes(table: &Table, timing: &Timing, over: u64, ends: &Ends, words: &mut [u64]) -> Row {
+    let mut row = Row {
+        id: table.id,
+        nodes: table.count as u64,
+        shortest: u64::MAX,
+        over,
+        ..Row::default()
+    };
     for (node, triple) in words.chunks_exact_mut(3).take(table.count).enumerate() {
+        let execution = table.executions[node];
         let offset = ends[usize::from(timing.first[node])];
         let deadline = ends[usize::from(timing.after[node])] - offset;
-        let density = (table.executions[node] * over * MILLION).div_ceil(deadline.max(1));
+        let density = (execution * over * MILLION).div_ceil(deadline.max(1));
         triple.copy_from_slice(&[offset, deadline, density]);
-        sum += density;
-        largest = largest.max(density);
+        row.sum += density;
+        row.largest = row.largest.max(density);
+        row.longest = row.longest.max(execution);
+        if execution > 0 {
+            row.shortest = row.shortest.min(deadline);
+        }
     }
-    (sum, largest)
+    row
 }
 
 /// How the period is dealt out: Q, and by what a segment's weight is

@@ -2,9 +2,10 @@
 
 use std::fmt::Write;
 
-use crate::plan::{write_plan, Written, HEAD, PLAN_WORDS};
+use crate::plan::{write_plan, HEAD, PLAN_WORDS};
 use crate::record::Table;
 use crate::refusal::Refusal;
+use crate::row::Row;
 use crate::timing::Timing;
 
 /// The program looks at no more of its input than this.
@@ -34,7 +35,7 @@ fn lines(record: &[u8]) -> Result<String, Refusal> {
     triples(&mut text, names, &words[HEAD..nodes_at]);
     let names = ["node", "offset", "deadline", "density"];
     triples(&mut text, names, &words[nodes_at..written.words as usize]);
-    let Written { sum, largest, .. } = written;
+    let Row { sum, largest, .. } = written.row;
     text.push_str(&format!("sum {sum} max {largest}\n"));
     Ok(text)
 }

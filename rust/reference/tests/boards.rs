@@ -1,10 +1,11 @@
 //! The board's rules: order of refusals, soundness, rows used again.
 
-use reference::{admit, ask, plan, withdraw, Answer, Row, PLAN_WORDS};
+use reference::{admit, ask, ask_to_end, plan, withdraw, Answer, Row, PLAN_WORDS};
 
 const OLD: u64 = 0xA5A5;
 
-/// One node of execution 5 in a period of 10: density 500,000.
+/// One node of execution 5 in a period of 10: deadline 50 over 5, density
+/// 500,000.
 fn record(id: u8) -> [u8; 6] {
     [1, id, 10, 1, 5, 0]
 }
@@ -15,6 +16,9 @@ fn row(id: u64) -> Row {
         nodes: 1,
         sum: 500_000,
         largest: 500_000,
+        longest: 5,
+        shortest: 50,
+        over: 5,
     }
 }
 
@@ -94,11 +98,12 @@ fn an_unsound_board_goes_before_id_and_cores() {
         let mut board = vec![Row::default(); length];
         assert_eq!(withdraw(&mut board, 0), refused(17, 0));
         assert_eq!(ask(&board, 0), refused(17, 0));
+        assert_eq!(ask_to_end(&board, 0), refused(17, 0));
     }
 }
 
 /// Each leaves row 7 of the full board unsound, or its id twice.
-const SPOILS: [fn(&mut Row); 14] = [
+const SPOILS: [fn(&mut Row); 33] = [
     |row| row.id = 0,
     |row| row.id = 65_536,
     |row| row.id = 1,
@@ -109,57 +114,109 @@ const SPOILS: [fn(&mut Row); 14] = [
     |row| row.sum = 499_999,
     |row| row.sum = 500_001,
     |row| (row.nodes, row.largest, row.sum) = (u64::MAX, u64::MAX, u64::MAX),
-    |row| {
-        *row = Row {
-            nodes: 1,
-            ..Row::default()
-        }
-    },
-    |row| {
-        *row = Row {
-            sum: 1,
-            ..Row::default()
-        }
-    },
-    |row| {
-        *row = Row {
-            largest: 1,
-            ..Row::default()
-        }
-    },
-    |row| {
-        *row = Row {
-            id: 9,
-            ..Row::default()
-        }
-    },
+    |row| row.longest = 0,
+    |row| row.longest = 65_791,
+    |row| row.longest = u64::MAX,
+    |row| row.over = 0,
+    |row| (row.shortest, row.over) = (0, 0),
+    |row| (row.shortest, row.over) = (8_421_121, 8_421_121),
+    |row| row.over = u64::MAX,
+    |row| row.shortest = 0,
+    // Q above twice the numerator.
+    |row| (row.shortest, row.over) = (0, 1),
+    |row| (row.shortest, row.over) = (1, 3),
+    |row| row.over = 101,
+    |row| (row.shortest, row.over) = (4_210_559, 8_421_119),
+    |row| (row.shortest, row.over) = (4_210_559, 8_421_120),
+    // The numerator above 16,777,215 x Q.
+    |row| (row.shortest, row.over) = (16_777_216, 1),
+    |row| row.shortest = 83_886_076,
+    |row| (row.shortest, row.over) = (141_282_940_780_801, 8_421_120),
+    |row| row.shortest = u64::MAX,
+    // Twice the numerator, or 16,777,215 x Q, is not what 64 bits keep of it.
+    |row| row.shortest = 1 << 63,
+    |row| row.shortest = (1 << 63) + 50,
+    |row| row.over = INVERSE,
+    |row| (row.shortest, row.over) = (5, INVERSE.wrapping_mul(5)),
+    |row| (row.longest, row.shortest, row.over) = (0, 0, 0),
+    |row| (row.longest, row.shortest, row.over) = (u64::MAX, u64::MAX, u64::MAX),
 ];
+
+/// 16,777,215 times this leaves 1 in 64 bits.
+const INVERSE: u64 = 0xFFFE_FFFF_FEFF_FFFF;
+
+fn assert_unsound(mut board: [Row; 16]) {
+    assert_eq!(ask(&board, 1), refused(17, 0), "{:?}", board[7]);
+    assert_eq!(ask_to_end(&board, 1), refused(17, 0), "{:?}", board[7]);
+    assert_eq!(admit_refusal(&record(99), 387, &board), refused(17, 0));
+    let before = board;
+    assert_eq!(withdraw(&mut board, 3), refused(17, 0));
+    assert_eq!(board, before);
+}
 
 #[test]
 fn every_way_to_be_unsound() {
+    assert_eq!(INVERSE.wrapping_mul(16_777_215), 1);
     for spoil in SPOILS {
         let mut board = full_board();
         spoil(&mut board[7]);
-        assert_eq!(ask(&board, 1), refused(17, 0), "{:?}", board[7]);
-        assert_eq!(withdraw(&mut board, 3), refused(17, 0));
-        assert_eq!(board[2], row(3));
+        assert_unsound(board);
     }
 }
+
+#[test]
+fn a_free_row_is_all_zeros() {
+    let figures: [fn(&mut Row) -> &mut u64; 7] = [
+        |row| &mut row.id,
+        |row| &mut row.nodes,
+        |row| &mut row.sum,
+        |row| &mut row.largest,
+        |row| &mut row.longest,
+        |row| &mut row.shortest,
+        |row| &mut row.over,
+    ];
+    for figure in figures {
+        for value in [99, 1 << 32, u64::MAX] {
+            let mut board = full_board();
+            board[7] = Row::default();
+            *figure(&mut board[7]) = value;
+            assert_unsound(board);
+        }
+    }
+}
+
+/// Longest, shortest and over at their limits.
+const STEPS: [[u64; 3]; 8] = [
+    [1, 1, 1],
+    [1, 1, 2],
+    [65_790, 2, 3],
+    [65_790, 16_777_215, 1],
+    [1, 4_210_560, 8_421_119],
+    [65_790, 4_210_560, 8_421_120],
+    [1, 141_282_940_780_800, 8_421_120],
+    [65_790, 141_282_940_780_800, 8_421_120],
+];
 
 #[test]
 fn the_limits_of_a_sound_row() {
     let limits = [(1, 1, 1, 1), (65_535, 64, 128_000_000, 2_000_000)];
     for (id, nodes, sum, largest) in limits {
-        let mut board = [Row::default(); 16];
-        board[15] = Row {
-            id,
-            nodes,
-            sum,
-            largest,
-        };
-        assert_eq!(ask(&board, 64).refusal, 0);
-        assert_eq!(withdraw(&mut board, id), yes(15));
-        assert_eq!(board, [Row::default(); 16]);
+        for [longest, shortest, over] in STEPS {
+            let mut board = [Row::default(); 16];
+            board[15] = Row {
+                id,
+                nodes,
+                sum,
+                largest,
+                longest,
+                shortest,
+                over,
+            };
+            assert_eq!(ask(&board, 64).refusal, 0, "{:?}", board[15]);
+            assert_eq!(ask_to_end(&board, 64).refusal, 0);
+            assert_eq!(withdraw(&mut board, id), yes(15));
+            assert_eq!(board, [Row::default(); 16]);
+        }
     }
 }
 
@@ -171,6 +228,7 @@ fn the_verdict_turns_at_equality() {
         nodes: 4,
         sum,
         largest: 600_000,
+        ..row(1)
     };
     // Three cores: 1,800,000 + 2 x 600,000 = 3,000,000.
     board[0] = tight(1_800_000);

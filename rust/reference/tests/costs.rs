@@ -226,6 +226,9 @@ fn full_board() -> [Row; 16] {
         nodes: 1,
         sum: 500_000,
         largest: 500_000,
+        longest: 5,
+        shortest: 50,
+        over: 5,
     })
 }
 

@@ -301,6 +301,9 @@ fn a_row_counts_joins_among_its_nodes() {
         nodes: 3,
         sum: 333_334,
         largest: 333_334,
+        longest: 3,
+        shortest: 27,
+        over: 3,
     };
     assert_eq!(board[0], row);
     assert_eq!(ask(&board, 1).value, 1);

@@ -2,7 +2,7 @@
 //! by closure, cuts from every start and finish, offsets by walking parents,
 //! a loop by leaving out nodes, an execution as what is written plus the cost.
 
-use reference::{plan, Answer, PLAN_WORDS};
+use reference::{admit, plan, Answer, Row, PLAN_WORDS};
 use std::collections::BTreeSet;
 
 #[derive(Clone)]
@@ -297,6 +297,46 @@ fn random_tasks() {
     assert!(planned > 5_000, "only {planned} tasks were planned");
     assert!(with_joins > 2_000, "only {with_joins} had joins");
     assert!(with_cost > 5_000, "only {with_cost} paid a cost");
+}
+
+/// The row of a task with that plan: joins are among the nodes, and in no other
+/// figure.
+fn row(task: &Task, words: &[u64]) -> Row {
+    let triples = words[3 + 3 * words[1] as usize..].chunks(3);
+    let nodes = (0..task.executions.len()).zip(triples);
+    let steps: Vec<_> = nodes
+        .filter(|(node, _)| task.execution(*node) > 0)
+        .collect();
+    let executions = steps.iter().map(|(node, _)| task.execution(*node));
+    let densities = steps.iter().map(|(_, triple)| triple[2]);
+    let deadlines = steps.iter().map(|(_, triple)| triple[1]);
+    Row {
+        id: 7,
+        nodes: task.executions.len() as u64,
+        sum: densities.clone().sum(),
+        largest: densities.max().unwrap(),
+        longest: executions.max().unwrap(),
+        shortest: deadlines.min().unwrap(),
+        over: words[0],
+    }
+}
+
+#[test]
+fn rows_of_random_tasks() {
+    let mut random = Random(0xD1B5_4A32_D192_ED03);
+    let mut admitted = 0;
+    for _ in 0..20_000 {
+        let task = Task::random(&mut random);
+        let mut board = [Row::default(); 16];
+        admit(&task.record(), &mut [0; PLAN_WORDS], &mut board, task.cost);
+        let mut expected = [Row::default(); 16];
+        if let Ok(words) = literal(&task) {
+            admitted += 1;
+            expected[0] = row(&task, &words);
+        }
+        assert_eq!(board, expected);
+    }
+    assert!(admitted > 5_000, "only {admitted} tasks were admitted");
 }
 
 #[test]

@@ -1,6 +1,7 @@
 -- `admissions::admission` meets its contract: 26 and 16 first, then 17, then the reading's refusal, then the table that was read, which planning
 -- can take.
 use mathlib.Core.Path.{_≡_, sym, ap, _∙_}
+use mathlib.Core.Logic.{⊎-elim}
 use borrow.Author.Needs.{needs}
 use denote.Ref.{now}
 use lib.ListN.{length}
@@ -12,7 +13,9 @@ use Rattle.records.specs.Reading.{readingOf}
 use Rattle.plans.specs.Calls.{beforeReading, onTable, onTask}
 use Rattle.plans.proofs.Table.{read-plannable}
 use Rattle.plans.proofs.Tests.{ready, task-refused, task-read}
+use Rattle.boards.specs.Sound.{isSound}
 use Rattle.boards.proofs.Tests.{passed, failed}
+use Rattle.boards.proofs.Halves.{first-holds, first-fails}
 use Rattle.admissions.specs.Admission.{notAdmitted, entered, admission}
 use Rattle.admissions.proofs.Tests.{refused-first, unsound, sound, leaves}
 use Rattle.admissions.proofs.admission.Statement.{statement}
@@ -45,8 +48,11 @@ returns c =
     let told = o .before .enum-told2 .given .1 in
     leaves (a .board .rows) (refused-first (now (a .bytes)) (now (a .words)) (a .board .rows) (a .cost) (sym (b .before-reading .ensures) ∙ told)) (c .unchanged .ensures) (o .answer-of .ensures ∙ ap answerOf told)
 
-is-sound-requires : tie.Need-is-sound-requires
-is-sound-requires c κs = search needs
+densities-sound-requires : tie.Need-densities-sound-requires
+densities-sound-requires c κs = search needs
+
+times-sound-requires : tie.Need-times-sound-requires
+times-sound-requires c κs = search needs
 
 unsound-requires : tie.Need-unsound-requires
 unsound-requires c κs = search needs
@@ -55,31 +61,42 @@ unchanged-requires-2 : tie.Need-unchanged-requires-2
 unchanged-requires-2 c κs = search needs
 
 -- neither 26 nor 16
-abbrev begun : tie.After-is-sound → tie.After-before-reading
-begun c = c .before .before .before
+abbrev begun : tie.Joined1 → tie.After-before-reading
+begun c = c .before .before .before .before
 
-first : (c : tie.After-is-sound) → (let a = start (begun c) .args in beforeReading (length (now (a .words))) (a .cost) ≡ Accepted)
-first c = sym (begun c .before-reading .ensures) ∙ c .before .enum-told .given .1
+first : (c : tie.Joined1) → (let a = start (begun c) .args in beforeReading (length (now (a .words))) (a .cost) ≡ Accepted)
+first c = sym (begun c .before-reading .ensures) ∙ c .before .before .enum-told .given .1
+
+-- both halves are the test of the board
+sound-so : (c : tie.Joined1) → c .if1 .sound ≡ isSound (start (begun c) .args .board .rows)
+sound-so c =
+    let board = start (begun c) .args .board in
+    let held = start (begun c) .good .1 .1 .0 in
+    let half = c .before .densities-sound .ensures in
+    ⊎-elim
+    (λ w. first-holds board held (sym half ∙ w .0 .taken) (w .2 ∙ w .1 .ensures))
+    (λ w. first-fails board held (sym half ∙ w .0 .left) (w .1 ∙ w .0 .left))
+    (c .if1 .came)
 
 returns-2 : tie.Need-returns-2
 returns-2 c =
     let i = c .before .before .before in
     let a = start (begun i) .args in
-    leaves (a .board .rows) (unsound (now (a .bytes)) (now (a .words)) (a .board .rows) (a .cost) (first i) (failed (i .is-sound .ensures) (c .before .before .if1 .taken)))
+    leaves (a .board .rows) (unsound (now (a .bytes)) (now (a .words)) (a .board .rows) (a .cost) (first i) (failed (sound-so i) (c .before .before .if2 .taken)))
     (c .unchanged2 .ensures) (c .before .unsound .ensures)
 
 read-record-requires : tie.Need-read-record-requires
 read-record-requires c κs = search needs
 
 -- nor 17
-abbrev tested : tie.After-read-record → tie.After-is-sound
+abbrev tested : tie.After-read-record → tie.Joined1
 tested c = c .before .before
 
 going : (c : tie.After-read-record) → (let a = start (begun (tested c)) .args in admission (now (a .bytes)) (now (a .words)) (a .board .rows) (a .cost) ≡ onTask (notAdmitted (a .board .rows) (now (a .words))) (entered (a .board .rows) (now (a .words))) (now (a .bytes)) (a .cost))
 going c =
     let i = tested c in
     let a = start (begun i) .args in
-    sound (now (a .bytes)) (now (a .words)) (a .board .rows) (a .cost) (first i) (passed (i .is-sound .ensures) (c .before .if1 .left))
+    sound (now (a .bytes)) (now (a .words)) (a .board .rows) (a .cost) (first i) (passed (sound-so i) (c .before .if2 .left))
 
 enum-told-3 : tie.Need-enum-told-3
 enum-told-3 c = search needs
@@ -141,7 +158,8 @@ admission-spec =
     answer-of-requires
     unchanged-requires
     returns
-    is-sound-requires
+    densities-sound-requires
+    times-sound-requires
     unsound-requires
     unchanged-requires-2
     returns-2

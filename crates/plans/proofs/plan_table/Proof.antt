@@ -14,9 +14,9 @@ use Rattle.tables.specs.declared.TaskTable.{TaskTable}
 use Rattle.tables.specs.Cost.{costed}
 use Rattle.tables.proofs.Cost.{at-cost, cost-none}
 use Rattle.ways.specs.Closure.{loops}
-use Rattle.ways.specs.Totals.{workOf}
+use Rattle.ways.specs.Totals.{workOf, longestOf}
 use Rattle.diagrams.specs.Inner.Traced.{Traced}
-use Rattle.plans.specs.Diagram.{path, segmentCount}
+use Rattle.plans.specs.Diagram.{longest, path, segmentCount}
 use Rattle.plans.specs.Words.{frontWords}
 use Rattle.plans.specs.Calls.{loopIn}
 use Rattle.plans.specs.Inner.Planned.{Planned}
@@ -84,10 +84,15 @@ answered c =
     let s = traced (ran c) in
     c .tested .ensures ∙ tested-so (table (ran c)) _ _ _ (s .told) (λ l. s .cut-up l .path-is ∙ sym (path-latest (table (ran c))))
 
+refused-requires : tie.Need-refused-requires
+refused-requires c κs = search needs
+
 returns : tie.Need-returns
 returns c =
-    let q = c .before .before in
-    (tested-out (table (ran q)) _ (answered q) (now (handed (charged (ran q)) .args .words)) (c .if1 .taken), λ z. absurd (c .if1 .taken z))
+    let t = c .before in
+    let q = t .before .before in
+    let out = tested-out (table (ran q)) _ (answered q) (now (handed (charged (ran q)) .args .words)) (t .if1 .taken) in
+    rw (c .refused .ensures) (out, λ z. absurd (t .if1 .taken z))
 
 -- ---- no refusal: the table has a plan, and the run is cut up as it
 passed : (c : tie.Else1) → (let t = table (ran (c .before .before)) in (loops (t .parents) (t .count) ≡ false) × (path t ≤ t .period) × (handed (charged (ran (c .before .before))) .args .later .refusal ≡ 0))
@@ -96,27 +101,30 @@ passed c = let q = c .before .before in tested-in (table (ran q)) _ (answered q)
 planned : (c : tie.Else1) → Planned (table (ran (c .before .before)))
 planned c = record { range = handed (charged (ran (c .before .before))) .pre .0; free = passed c .0; fits = passed c .1 }
 
-work-of-requires : tie.Need-work-of-requires
-work-of-requires c κs = let a = charged (ran (c .before .before .before)) in (handed a .pre .0 .count-high, light a)
+weigh-requires : tie.Need-weigh-requires
+weigh-requires c κs = let a = charged (ran (c .before .before .before)) in (handed a .pre .0 .count-high, light a)
 
 -- where the tests were passed
-abbrev past : tie.After-work-of → tie.Else1
+abbrev past : tie.After-weigh → tie.Else1
 past c = c .before .before
 
-segments-of : (c : tie.After-work-of) → (let r = ran (past c .before .before) in let t = table r in SegmentsOf t (t .count) (t .period) (c .work-of .result) (r .sweep .result .cut .number) (r .sweep .result .cut .time) (r .sweep .last .0) (r .sweep .last .1 .0) (r .sweep .last .1 .1 .0))
+segments-of : (c : tie.After-weigh) → (let r = ran (past c .before .before) in let t = table r in SegmentsOf t (t .count) (t .period) (c .weigh .result .work) (r .sweep .result .cut .number) (r .sweep .result .cut .time) (r .sweep .last .0) (r .sweep .last .1 .0) (r .sweep .last .1 .1 .0))
 segments-of c = record {
   table = planned (past c);
   count = refl;
   period = refl;
-  work = let r = ran (past c .before .before) in c .work-of .ensures ∙ ap (λ (X : List ℕ). workOf X (table r .count)) (charged r .add-cost .ensures);
+  work = let r = ran (past c .before .before) in c .weigh .ensures .0 ∙ ap (λ (X : List ℕ). workOf X (table r .count)) (charged r .add-cost .ensures);
   cut-up = traced (ran (past c .before .before)) .cut-up (passed (past c) .0);
 }
+
+longest-of : (c : tie.After-weigh) → c .weigh .result .longest ≡ longest (table (ran (past c .before .before)))
+longest-of c = let r = ran (past c .before .before) in c .weigh .ensures .1 ∙ ap (λ (X : List ℕ). longestOf X (table r .count)) (charged r .add-cost .ensures)
 
 write-segments-requires : tie.Need-write-segments-requires
 write-segments-requires c κs = let w = c .before .before .before .before in ((_, segments-of w), handed (charged (ran (past w .before .before))) .pre .1)
 
 -- the call before, and the words once the front is written
-abbrev worked : tie.After-write-segments → tie.After-work-of
+abbrev worked : tie.After-write-segments → tie.After-weigh
 worked c = c .before .before .before .before .before
 
 front : (c : tie.After-write-segments) → (let r = ran (past (worked c) .before .before) in c .write-segments .last .0 ≡ frontWords (table r) ++ drop (3 + 3 * segmentCount (table r)) (now (handed (charged r) .args .words)))
@@ -158,7 +166,7 @@ returns-2 c =
     let wrote = n .write-nodes .ensures _ (nodes-of w) in (
       rw (c .accepted .ensures, wrote .0, wrote .1 ∙ past-front t (now (a .words)) (front w))
           (sym (on-fits _ _ t (passed p .0) (passed p .1) ∙ later-accepts (a .later) (now (a .words)) t (passed p .2))),
-      λ z. record { table = planned p; work = segments-of (worked w) .work; path = path-so (segments-of (worked w)) },
+      λ z. record { table = planned p; work = segments-of (worked w) .work; path = path-so (segments-of (worked w)); longest = longest-of (worked w) },
     )
 
 pub plan-table-spec : {M : Type 1} → statement M
@@ -168,8 +176,9 @@ plan-table-spec =
     add-cost-requires
     sweep-requires
     tested-requires
+    refused-requires
     returns
-    work-of-requires
+    weigh-requires
     write-segments-requires
     write-nodes-requires
     accepted-requires

@@ -15,7 +15,7 @@ use Rattle.refusals.specs.Answer.{refused}
 use Rattle.tables.specs.declared.TaskTable.{TaskTable}
 use Rattle.diagrams.specs.Inner.Traced.{CutUp, Spanned}
 use Rattle.plans.specs.declared.Planning.{Planning}
-use Rattle.plans.specs.Diagram.{start, finish, work, path, segmentCount}
+use Rattle.plans.specs.Diagram.{start, finish, work, longest, path, segmentCount}
 use Rattle.plans.specs.Words.{wordsMax, frontWords}
 use Rattle.plans.specs.Calls.{onTable}
 use Rattle.plans.specs.Inner.Planned.{Planned}
@@ -45,8 +45,9 @@ pub record NodesOf (t : TaskTable) (n : ℕ) (f z X words : List ℕ) : Type 0 w
   pub room : wordsMax ≤ length words
   pub front : take (3 + 3 * segmentCount t) words ≡ frontWords t
 
--- work and path are those of the table, which has a plan
+-- work, path and longest execution are those of the table, which has a plan
 pub record Totalled (t : TaskTable) (p : Planning) : Type 0 where
   pub table : Planned t
   pub work : p .work ≡ work t
   pub path : p .path ≡ path t
+  pub longest : p .longest ≡ longest t

@@ -1,97 +1,86 @@
--- `boards::changes::asked` meets its contract: it asks the definition's tests in their order, and a sound board and a core count in range are what the
--- verdict requires.
-use mathlib.Core.Path.{_≡_}
-use Prim.Native.Nat.{ℕ, _≤_}
-use native.Mathlib.Omega.{arith}
+-- `boards::changes::asked` meets its contract: 17 and 15 as they come, and where neither is given, the board is sound and the core count in its range,
+-- which is what the verdict requires.
+use mathlib.Core.Path.{_≡_, sym, ap, _∙_}
+use mathlib.Core.Bool.{Bool}
+use mathlib.Core.Logic.{⊎-elim}
 use borrow.Author.Needs.{needs}
-use borrow.Author.Tests.{eq-eqb, ne-eqb, lt-ltb, le-ltb}
 use Rattle.plain.specs.Pick.{one}
-use Rattle.refusals.specs.declared.Answer.{Answer}
-use Rattle.refusals.specs.Answer.{accepted}
-use Rattle.boards.specs.Change.{asked}
-use Rattle.boards.proofs.Tests.{pick-yes, pick-no, passed, failed}
-use Rattle.boards.proofs.Sound.{sound-test}
+use Rattle.refusals.specs.Answer.{accepted, answerOf}
+use Rattle.refusals.specs.declared.Outcome.the-variants.{Accepted}
+use Rattle.boards.specs.Sound.{isSound}
+use Rattle.boards.specs.Verdict.{verdict}
+use Rattle.boards.specs.Change.{beforeAsking}
+use Rattle.boards.proofs.Halves.{first-holds, first-fails}
+use Rattle.boards.proofs.Cases.{asked-refused, asked-told, may-ask}
 use Rattle.boards.proofs.changes.asked.Statement.{statement}
 use Rattle.boards.proofs.changes.asked.Tie as tie
 
-is-sound-requires : tie.Need-is-sound-requires
-is-sound-requires c κs = search needs
+densities-sound-requires : tie.Need-densities-sound-requires
+densities-sound-requires c κs = search needs
 
-unsound-requires : tie.Need-unsound-requires
-unsound-requires c κs = search needs
+times-sound-requires : tie.Need-times-sound-requires
+times-sound-requires c κs = search needs
+
+-- both halves are the test
+sound-so : (c : tie.Joined1) → c .if1 .sound ≡ isSound (c .before .before .args .board .rows)
+sound-so c =
+    let start = c .before .before in
+    let first = c .before .densities-sound .ensures in
+    ⊎-elim
+    (λ w. first-holds (start .args .board) (start .good .0) (sym first ∙ w .0 .taken) (w .2 ∙ w .1 .ensures))
+    (λ w. first-fails (start .args .board) (start .good .0) (sym first ∙ w .0 .left) (w .1 ∙ w .0 .left))
+    (c .if1 .came)
+
+before-asking-requires : tie.Need-before-asking-requires
+before-asking-requires c κs = search needs
+
+-- what the rules before a verdict come to
+ruled : (c : tie.After-before-asking) → (let a = c .before .before .before .args in c .before-asking .result ≡ beforeAsking (isSound (a .board .rows)) (a .cores))
+ruled c = c .before-asking .ensures ∙ ap (λ (s : Bool). beforeAsking s (c .before .before .before .args .cores)) (sound-so (c .before))
+
+enum-told : tie.Need-enum-told
+enum-told c = search needs
+
+enum-told-2 : tie.Need-enum-told-2
+enum-told-2 c = search needs
+
+answer-of-requires : tie.Need-answer-of-requires
+answer-of-requires c κs = search needs
 
 returns : tie.Need-returns
-unfolding asked
 returns c =
-    let one = c .before in
-    pick-no _ (failed (one .before .is-sound .ensures) (one .if1 .taken)) (c .unsound .ensures)
+    let told = c .before .enum-told2 .given .1 in
+    let b = c .before .before .before in
+    let a = b .before .before .before .args in
+    c .answer-of .ensures ∙ ap answerOf told ∙ sym (asked-refused verdict (a .board .rows) (a .cores) (sym (ruled b) ∙ told))
 
-refused-by-requires : tie.Need-refused-by-requires
-refused-by-requires c κs = search needs
-
-returns-2 : tie.Need-returns-2
-unfolding asked
-returns-2 c =
-    let two = c .before in
-    let one = two .before in
-    pick-yes _ (passed (one .before .is-sound .ensures) (one .if1 .left)) (pick-yes _ (eq-eqb _ _ (two .if2 .taken)) (c .refused-by .ensures))
-
-refused-by-requires-2 : tie.Need-refused-by-requires-2
-refused-by-requires-2 c κs = search needs
-
-returns-3 : tie.Need-returns-3
-unfolding asked
-returns-3 c =
-    let three = c .before in
-    let two = three .before in
-    let one = two .before in
-    pick-yes _ (passed (one .before .is-sound .ensures) (one .if1 .left))
-    (pick-no _ (ne-eqb _ _ (two .if2 .left)) (pick-yes _ (lt-ltb _ _ (three .if3 .taken)) (c .refused-by2 .ensures)))
+-- neither 17 nor 15
+first : (c : tie.After-enum-told) → (let a = c .before .before .before .before .before .args in beforeAsking (isSound (a .board .rows)) (a .cores) ≡ Accepted)
+first c = sym (ruled (c .before .before)) ∙ c .enum-told .given .1
 
 verdict-for-requires : tie.Need-verdict-for-requires
-verdict-for-requires c κs =
-    let two = c .before in
-    let one = two .before in
-    (sound-test (one .before .before .args .board .rows) (passed (one .before .is-sound .ensures) (one .if1 .left)), (pos (two .if2 .left), c .if3 .left))
-  where
-    pos : {m : ℕ} → (m ≡ 0 → ⊥) → 1 ≤ m
-    pos n = omega arith
+verdict-for-requires c κs = let a = c .before .before .before .before .before .args in may-ask (a .board .rows) (a .cores) (first c)
 
-accepted-requires : tie.Need-accepted-requires
-accepted-requires c κs = search needs
+told-requires : tie.Need-told-requires
+told-requires c κs = search needs
 
-accepted-requires-2 : tie.Need-accepted-requires-2
-accepted-requires-2 c κs = search needs
-
--- past the three tests the answer is the verdict
-told : (c : tie.After-verdict-for) {r : Answer} → r ≡ accepted (one (c .verdict-for .result)) → r ≡ asked (c .before .before .before .before .before .args .board .rows) (c .before .before .before .before .before .args .cores)
-unfolding asked
-told c e =
-    let third = c .before in
-    let second = third .before in
-    let first = second .before in
-    pick-yes _ (passed (first .before .is-sound .ensures) (first .if1 .left))
-    (pick-no _ (ne-eqb _ _ (second .if2 .left)) (pick-no _ (le-ltb _ _ (third .if3 .left)) (rw (c .verdict-for .ensures) at e)))
-
-returns-4 : tie.Need-returns-4
-returns-4 c = told (c .before .before) (rw (c .before .if4 .taken) (c .accepted .ensures))
-
-returns-5 : tie.Need-returns-5
-returns-5 c = told (c .before .before) (rw (c .before .if4 .left) (c .accepted2 .ensures))
+returns-2 : tie.Need-returns-2
+returns-2 c =
+    let said = c .before in
+    let a = said .before .before .before .before .before .before .args in
+    c .told .ensures ∙ ap (λ (b : Bool). accepted (one b)) (said .verdict-for .ensures) ∙ sym (asked-told verdict (a .board .rows) (a .cores) (first (said .before)))
 
 pub asked-spec : {M : Type 1} → statement M
 asked-spec =
     tie.close
     (tie.spec
-    is-sound-requires
-    unsound-requires
+    densities-sound-requires
+    times-sound-requires
+    before-asking-requires
+    enum-told
+    enum-told-2
+    answer-of-requires
     returns
-    refused-by-requires
-    returns-2
-    refused-by-requires-2
-    returns-3
     verdict-for-requires
-    accepted-requires
-    accepted-requires-2
-    returns-4
-    returns-5)
+    told-requires
+    returns-2)

@@ -1,14 +1,31 @@
 -- `boards::changes::withdrawn` meets its contract: it asks the definition's tests in their order.
+use mathlib.Core.Path.{_≡_, sym, _∙_}
+use mathlib.Core.Logic.{⊎-elim}
 use borrow.Author.Needs.{needs}
 use borrow.Author.Tests.{eq-eqb, ne-eqb, lt-ltb, le-ltb}
 use lib.Dec.{lit<}
+use Rattle.boards.specs.Sound.{isSound}
 use Rattle.boards.specs.Change.{withdrawn}
+use Rattle.boards.proofs.Halves.{first-holds, first-fails}
 use Rattle.boards.proofs.Tests.{pick-yes, pick-no, passed, failed}
 use Rattle.boards.proofs.changes.withdrawn.Statement.{statement}
 use Rattle.boards.proofs.changes.withdrawn.Tie as tie
 
-is-sound-requires : tie.Need-is-sound-requires
-is-sound-requires c κs = search needs
+densities-sound-requires : tie.Need-densities-sound-requires
+densities-sound-requires c κs = search needs
+
+times-sound-requires : tie.Need-times-sound-requires
+times-sound-requires c κs = search needs
+
+-- both halves are the test
+sound-so : (c : tie.Joined1) → c .if1 .sound ≡ isSound (c .before .before .args .board .rows)
+sound-so c =
+    let start = c .before .before in
+    let first = c .before .densities-sound .ensures in
+    ⊎-elim
+    (λ w. first-holds (start .args .board) (start .good .0) (sym first ∙ w .0 .taken) (w .2 ∙ w .1 .ensures))
+    (λ w. first-fails (start .args .board) (start .good .0) (sym first ∙ w .0 .left) (w .1 ∙ w .0 .left))
+    (c .if1 .came)
 
 unsound-requires : tie.Need-unsound-requires
 unsound-requires c κs = search needs
@@ -21,7 +38,7 @@ unfolding withdrawn
 returns c =
     let one = c .before .before in
     let left = rw (c .before .unsound .ensures) at (c .unchanged .ensures) in
-    (pick-no _ (failed (one .before .is-sound .ensures) (one .if1 .taken)) left, rw left (lit< tt))
+    (pick-no _ (failed (sound-so (one .before)) (one .if2 .taken)) left, rw left (lit< tt))
 
 refused-by-requires : tie.Need-refused-by-requires
 refused-by-requires c κs = search needs
@@ -35,7 +52,7 @@ returns-2 c =
     let two = c .before .before in
     let one = two .before in
     let left = rw (c .before .refused-by .ensures) at (c .unchanged2 .ensures) in
-    (pick-yes _ (passed (one .before .is-sound .ensures) (one .if1 .left)) (pick-yes _ (eq-eqb _ _ (two .if2 .taken)) left), rw left (lit< tt))
+    (pick-yes _ (passed (sound-so (one .before)) (one .if2 .left)) (pick-yes _ (eq-eqb _ _ (two .if3 .taken)) left), rw left (lit< tt))
 
 place-of-requires : tie.Need-place-of-requires
 place-of-requires c κs = search needs
@@ -58,11 +75,11 @@ returns-3 c =
     let three = c .before .before in
     let two = three .before .before in
     let one = two .before in (
-      pick-yes _ (passed (one .before .is-sound .ensures) (one .if1 .left))
-          (pick-no _ (ne-eqb _ _ (two .if2 .left))
-          (pick-yes _ (lt-ltb _ _ (rw (three .before .place-of .ensures) at (three .if3 .taken)))
+      pick-yes _ (passed (sound-so (one .before)) (one .if2 .left))
+          (pick-no _ (ne-eqb _ _ (two .if3 .left))
+          (pick-yes _ (lt-ltb _ _ (rw (three .before .place-of .ensures) at (three .if4 .taken)))
           (rw (c .accepted .ensures, c .before .free .ensures, three .before .place-of .ensures)))),
-      three .if3 .taken,
+      three .if4 .taken,
     )
 
 returns-4 : tie.Need-returns-4
@@ -72,9 +89,9 @@ returns-4 c =
     let two = three .before .before in
     let one = two .before in
     let left = rw (c .before .refused-by2 .ensures) at (c .unchanged3 .ensures) in (
-      pick-yes _ (passed (one .before .is-sound .ensures) (one .if1 .left))
-          (pick-no _ (ne-eqb _ _ (two .if2 .left))
-          (pick-no _ (le-ltb _ _ (rw (three .before .place-of .ensures) at (three .if3 .left))) left)),
+      pick-yes _ (passed (sound-so (one .before)) (one .if2 .left))
+          (pick-no _ (ne-eqb _ _ (two .if3 .left))
+          (pick-no _ (le-ltb _ _ (rw (three .before .place-of .ensures) at (three .if4 .left))) left)),
       rw left (lit< tt),
     )
 
@@ -82,7 +99,8 @@ pub withdrawn-spec : {M : Type 1} → statement M
 withdrawn-spec =
     tie.close
     (tie.spec
-    is-sound-requires
+    densities-sound-requires
+    times-sound-requires
     unsound-requires
     unchanged-requires
     returns

@@ -1,12 +1,12 @@
--- `boards::soundness::is_standing` meets its contract: it asks the definition's ranges in their order, and multiplies only once both factors are in theirs.
+-- `boards::soundness::is_dense` meets its contract: it asks the definition's ranges in their order, and multiplies only once both factors are in theirs.
 use mathlib.Core.Path.{refl}
 use native.Mathlib.Nat.{mul-le-mul}
 use native.Mathlib.Omega.{arith}
 use borrow.Author.Needs.{needs}
 use Rattle.tables.specs.Limits.{countMax, densityMax}
 use Rattle.boards.proofs.Tests.{pick-yes, pick-no, passed, failed, between-true}
-use Rattle.boards.proofs.soundness.is_standing.Statement.{statement}
-use Rattle.boards.proofs.soundness.is_standing.Tie as tie
+use Rattle.boards.proofs.soundness.is_dense.Statement.{statement}
+use Rattle.boards.proofs.soundness.is_dense.Tie as tie
 
 is-between-requires : tie.Need-is-between-requires
 is-between-requires c κs = search needs
@@ -56,8 +56,8 @@ returns-4 c =
     (pick-yes _ (passed (three .before .is-between3 .ensures) (three .if3 .left))
     (c .is-between4 .ensures)))
 
-pub is-standing-spec : {M : Type 1} → statement M
-is-standing-spec =
+pub is-dense-spec : {M : Type 1} → statement M
+is-dense-spec =
     tie.close
     (tie.spec
     is-between-requires

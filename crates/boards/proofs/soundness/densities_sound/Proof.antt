@@ -1,4 +1,4 @@
--- `boards::soundness::is_sound` meets its contract. The loop's invariant: the rows passed are sound and new, their ids stand in the array, and the ids'
+-- `boards::soundness::densities_sound` meets its contract. The loop's invariant: the rows passed fit and are new, their ids stand in the array, and the ids'
 -- remainders in the set; the first row that isn't makes the whole test fail.
 use mathlib.Core.Path.{_≡_, refl, sym, _∙_}
 use mathlib.Core.Logic.{⊎-elim}
@@ -8,7 +8,7 @@ use Prim.Native.Nat.{ℕ, _+_, _-_, _%_, _^_, _≤_, _<_}
 use native.Mathlib.Nat.{eq-or-lt-of-le, not-suc-le-zero}
 use native.Mathlib.Omega.{arith}
 use borrow.Author.Needs.{needs}
-use borrow.Author.Tests.{eq-eqb, eqb-false}
+use borrow.Author.Tests.{eqb-false}
 use lib.ListN.{set}
 use Rattle.plain.specs.At.{at}
 use Rattle.plain.proofs.Lists.{Filled, fill-zeros, fill-more}
@@ -16,18 +16,17 @@ use Rattle.sets.specs.Member.{Member}
 use Rattle.sets.specs.Inner.Put.{withMember}
 use Rattle.sets.proofs.Bits.{put-same, mem-or-l, with-or}
 use Rattle.boards.specs.declared.Row.{Row}
-use Rattle.boards.specs.declared.Board.{Board}
 use Rattle.boards.specs.Row.{rowsMax, rowAt}
-use Rattle.boards.specs.Sound.{both, isSoundRow, isNew, isSound, allTo}
-use Rattle.boards.proofs.Held.{Held, sixteen}
+use Rattle.boards.specs.Sound.{both, isNew, allTo}
+use Rattle.boards.specs.Inner.Halves.{densitiesFit, densitiesSound}
 use Rattle.boards.proofs.Sound.{idsOf, new-same, new-apart}
 use Rattle.boards.proofs.Tests.{true-both, pick-yes, pick-no, passed, failed, allTo-none, allTo-more, allTo-false}
-use Rattle.boards.proofs.soundness.is_sound.Statement.{statement}
-use Rattle.boards.proofs.soundness.is_sound.Tie as tie
+use Rattle.boards.proofs.soundness.densities_sound.Statement.{statement}
+use Rattle.boards.proofs.soundness.densities_sound.Tie as tie
 
 -- the test of one row
 abbrev passes : List Row → ℕ → Bool
-passes rows k = both (isSoundRow (rowAt rows k)) (isNew (idsOf rows) k)
+passes rows k = both (densitiesFit (rowAt rows k)) (isNew (idsOf rows) k)
 
 -- the ids of the first k rows stand in the array
 abbrev Ids : List Row → ℕ → List ℕ → Type 0
@@ -43,13 +42,9 @@ remainder-more rows k s r has e i h =
     rw (e, with-or (rowAt rows k .id % 64) s)
     (⊎-elim (λ (q : i ≡ k). rw q (put-same s (rowAt rows k .id % 64))) (λ (l : i < k). mem-or-l (rowAt rows i .id % 64) s (2 ^ (rowAt rows k .id % 64)) (has i l)) (eq-or-lt-of-le (omega arith)))
 
--- with 16 rows, the whole test is that of the rows, and one that fails makes it fail
-whole : (b : Board) → Held b → {t : Bool} → t ≡ allTo rowsMax (passes (b .rows)) → t ≡ isSound (b .rows)
-unfolding isSound
-whole b h e = pick-yes _ (eq-eqb _ _ (sixteen b h)) e
-
-fails : (b : Board) → Held b → (k : ℕ) → k < rowsMax → false ≡ passes (b .rows) k → false ≡ isSound (b .rows)
-fails b h k l e = whole b h (sym (allTo-false rowsMax (passes (b .rows)) k l (sym e)))
+-- one that fails makes the whole test fail
+fails : (rows : List Row) (k : ℕ) → k < rowsMax → false ≡ passes rows k → false ≡ densitiesSound rows
+fails rows k l e = sym (allTo-false rowsMax (passes rows) k l (sym e))
 
 abbrev Inv-loop : tie.InvT-loop
 Inv-loop board ids₀ remainders₀ k₀ ids remainders k = (k ≤ rowsMax) × (allTo k (passes (board .rows)) ≡ true) × Ids (board .rows) k ids × Remainders (board .rows) k remainders
@@ -66,13 +61,13 @@ mul-row c = omega arith
 element-copy-out-row : tie.Need-element-copy-out-row Inv-loop μ-loop
 element-copy-out-row c = omega arith
 
-is-sound-row-requires : tie.Need-is-sound-row-requires Inv-loop μ-loop
-is-sound-row-requires c κs = search needs
+densities-fit-requires : tie.Need-densities-fit-requires Inv-loop μ-loop
+densities-fit-requires c κs = search needs
 
 returns : tie.Need-returns Inv-loop μ-loop
 returns c =
     let head = c .before .before .before .before in
-    fails (head .before .args .t1) (head .before .good .0) (head .loop .k) (omega arith) (pick-no _ (failed (c .before .is-sound-row .ensures) (c .if1 .taken)) refl)
+    fails (head .before .args .t1 .rows) (head .loop .k) (omega arith) (pick-no _ (failed (c .before .densities-fit .ensures) (c .if1 .taken)) refl)
 
 mul-ids : tie.Need-mul-ids Inv-loop μ-loop
 mul-ids c = omega arith
@@ -103,8 +98,8 @@ returns-2 : tie.Need-returns-2 Inv-loop μ-loop
 returns-2 c =
     let one = c .before .before .before .before .before .before in
     let head = one .before .before .before .before in
-    fails (head .before .args .t1) (head .before .good .0) (head .loop .k) (omega arith)
-    (pick-yes _ (passed (one .before .is-sound-row .ensures) (one .if1 .left)) (sym (failed (new-so (c .before)) (c .if3 .taken))))
+    fails (head .before .args .t1 .rows) (head .loop .k) (omega arith)
+    (pick-yes _ (passed (one .before .densities-fit .ensures) (one .if1 .left)) (sym (failed (new-so (c .before)) (c .if3 .taken))))
 
 with-member-requires : tie.Need-with-member-requires Inv-loop μ-loop
 with-member-requires c κs = omega arith
@@ -124,17 +119,17 @@ loop-again c =
     (λ w. passed (new-so (record { before = record { before = record { before = c .before .before; if2 = w .0 }; ids = w .1 }; is-new = w .2 })) (w .3 .left))
     (λ w. new-apart (idsOf rows) (head .loop .k) _ (head .loop .inv .3) (eqb-false _ _ (sym (c .before .before .is-member .ensures) ∙ w .left)))
     (c .before .if2 .came) in
-    let here = true-both (passed (one .before .is-sound-row .ensures) (one .if1 .left)) new in
+    let here = true-both (passed (one .before .densities-fit .ensures) (one .if1 .left)) new in
     (omega arith, allTo-more (head .loop .k) (passes rows) ∙ true-both (head .loop .inv .1) here, more one, remainder-more rows (head .loop .k) _ _ (head .loop .inv .3) (c .with-member .ensures))
 
 returns-3 : tie.Need-returns-3 Inv-loop μ-loop
 returns-3 c =
     let head = c .before in
     let end : head .loop .k ≡ rowsMax = omega arith in
-    whole (head .before .args .t1) (head .before .good .0) (sym (rw end at (head .loop .inv .1)))
+    sym (rw end at (head .loop .inv .1))
 
-pub is-sound-spec : {M : Type 1} → statement M
-is-sound-spec =
+pub densities-sound-spec : {M : Type 1} → statement M
+densities-sound-spec =
     tie.close
     (tie.spec
     Inv-loop
@@ -142,7 +137,7 @@ is-sound-spec =
     loop-holds
     mul-row
     element-copy-out-row
-    is-sound-row-requires
+    densities-fit-requires
     returns
     mul-ids
     array-write-ids

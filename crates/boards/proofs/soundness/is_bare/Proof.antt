@@ -1,9 +1,9 @@
--- `boards::soundness::is_free` meets its contract: it asks the definition's four tests in their order.
+-- `boards::soundness::is_bare` meets its contract: it asks the definition's four tests in their order.
 use mathlib.Core.Path.{refl}
 use borrow.Author.Tests.{eq-eqb, ne-eqb}
 use Rattle.boards.proofs.Tests.{pick-yes, pick-no}
-use Rattle.boards.proofs.soundness.is_free.Statement.{statement}
-use Rattle.boards.proofs.soundness.is_free.Tie as tie
+use Rattle.boards.proofs.soundness.is_bare.Statement.{statement}
+use Rattle.boards.proofs.soundness.is_bare.Tie as tie
 
 returns : tie.Need-returns
 returns c = pick-no _ (ne-eqb _ _ (c .if1 .taken)) refl
@@ -24,5 +24,5 @@ returns-4 c =
     let one = two .before .before in
     pick-yes _ (eq-eqb _ _ (one .if1 .left)) (pick-yes _ (eq-eqb _ _ (two .if2 .left)) (pick-yes _ (eq-eqb _ _ (three .if3 .left)) refl))
 
-pub is-free-spec : {M : Type 1} → statement M
-is-free-spec = tie.close (tie.spec returns returns-2 returns-3 returns-4)
+pub is-bare-spec : {M : Type 1} → statement M
+is-bare-spec = tie.close (tie.spec returns returns-2 returns-3 returns-4)
