@@ -61,13 +61,13 @@ isDense r =
     both (between 1 (r .id) idMax) (both (between 1 (r .nodes) countMax)
     (both (between 1 (r .largest) densityMax) (between (r .largest) (r .sum) (r .nodes * r .largest))))
 
--- and of its times
+-- and of its times: "the execution is in range", Q is, "and is at most twice the numerator, which is at most 16,777,215 × Q"
 abbrev pub isTimed : Row → Bool
 isTimed r =
     both (between 1 (r .longest) runMax) (both (between 1 (r .over) overMax)
     (both (leb (r .shortest) (periodMax * r .over)) (leb (r .over) (2 * r .shortest))))
 
--- both
+-- the ranges of a standing row
 abbrev pub isStanding : Row → Bool
 isStanding r = both (isDense r) (isTimed r)
 

@@ -14,9 +14,9 @@ ghost use Rattle.boards.specs.Inner.Halves.{densitiesFit, timesFit, dens
 // Limits of specs/: the greatest density in millionths, the greatest execution with its cost, and the greatest Q.
 const DENSITY_MAX: u64 = 2_000_000;
 
-const RUN_MAX: u64 = 65_790;
+const RUN_MAX: u64 = TaskTable::EXECUTION_MAX + TaskTable::COST_MAX;
 
-const OVER_MAX: u64 = 8_421_120;
+const OVER_MAX: u64 = 2 * TaskTable::COUNT_MAX * RUN_MAX;
 
 // Whether the row has no task and no densities.
 fn is_bare(row: Row) -> bool

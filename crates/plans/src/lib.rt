@@ -4,11 +4,13 @@ use refusals::Outcome;
 use refusals::Refusal;
 use sweeps::Swept;
 use tables::TaskTable;
+use ways::Weighed;
 ghost use mathlib.Core.Path.{_≡_};
 ghost use mathlib.Core.List.{_++_};
 ghost use Prim.Native.Nat.{_+_, _*_, _≤_};
 ghost use lib.Dec.{ltb};
 ghost use lib.ListN.{length, drop};
+ghost use Rattle.refusals.specs.Answer.{accepted};
 ghost use Rattle.tables.specs.Cost.{costed};
 ghost use Rattle.tables.specs.Inner.Plannable.{Plannable};
 ghost use Rattle.ways.specs.Inner.Tidy.{Tidy};
@@ -114,6 +116,18 @@ impl Planning {
             longest: 0,
         }
     }
+
+    // A plan of so many words.
+    fn accepted(count: usize, path: u64, weighed: Weighed) -> Self
+        ensures { λ r. ⌜ r ≡ record { answer = accepted count; work = weighed .work; path = path; longest = weighed .longest } ⌝ }
+    {
+        Self {
+            answer: Answer::accepted(count as u64),
+            work: weighed.work,
+            path,
+            longest: weighed.longest,
+        }
+    }
 }
 
 // The plan of a table with a cost: 10, 11, then the answer of the caller's later rules, as 12 and 13 of an admission, and only then are words written.
@@ -152,12 +166,7 @@ pub fn plan_table(words: &mut [u64], table: TaskTable, cost: u64, later: Answer)
     let work = weighed.work;
     write_segments(words, &threads, &enders, &finishes, swept, n, period, work);
     let count = write_nodes(words, &first, &last, &execution, n);
-    Planning {
-        answer: Answer::accepted(count as u64),
-        work,
-        path: swept.cut.time,
-        longest: weighed.longest,
-    }
+    Planning::accepted(count, swept.cut.time, weighed)
 }
 
 // Plans the task of a record, each step with the cost, into the words; the answer's value is the number of words.

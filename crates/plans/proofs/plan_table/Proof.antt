@@ -16,6 +16,7 @@ use Rattle.tables.proofs.Cost.{at-cost, cost-none}
 use Rattle.ways.specs.Closure.{loops}
 use Rattle.ways.specs.Totals.{workOf, longestOf}
 use Rattle.diagrams.specs.Inner.Traced.{Traced}
+use Rattle.plans.specs.declared.Planning.{Planning}
 use Rattle.plans.specs.Diagram.{longest, path, segmentCount}
 use Rattle.plans.specs.Words.{frontWords}
 use Rattle.plans.specs.Calls.{loopIn}
@@ -163,10 +164,16 @@ returns-2 c =
     let p = past (worked w) in
     let t = table (ran (p .before .before)) in
     let a = handed (charged (ran (p .before .before))) .args in
-    let wrote = n .write-nodes .ensures _ (nodes-of w) in (
-      rw (c .accepted .ensures, wrote .0, wrote .1 ∙ past-front t (now (a .words)) (front w))
+    let wrote = n .write-nodes .ensures _ (nodes-of w) in
+    let told = c .accepted .ensures in (
+      rw (told, wrote .0, wrote .1 ∙ past-front t (now (a .words)) (front w))
           (sym (on-fits _ _ t (passed p .0) (passed p .1) ∙ later-accepts (a .later) (now (a .words)) t (passed p .2))),
-      λ z. record { table = planned p; work = segments-of (worked w) .work; path = path-so (segments-of (worked w)); longest = longest-of (worked w) },
+      λ z. record {
+        table = planned p;
+        work = ap (λ (x : Planning). x .work) told ∙ segments-of (worked w) .work;
+        path = ap (λ (x : Planning). x .path) told ∙ path-so (segments-of (worked w));
+        longest = ap (λ (x : Planning). x .longest) told ∙ longest-of (worked w);
+      },
     )
 
 pub plan-table-spec : {M : Type 1} → statement M
