@@ -31,6 +31,20 @@ pub record Tells (says : Bool) (Fit : Type 0) : Type 0 where
   pub holds : says ≡ true → Fit
   pub fails : says ≡ false → Fit → ⊥
 
+-- so it says yes where that fits, and no where it doesn't
+fit-says : (says : Bool) {Fit : Type 0} → Tells says Fit → Fit → says ≡ true
+fit-says true t f = refl
+fit-says false t f = absurd (t .fails refl f)
+
+unfit-says : (says : Bool) {Fit : Type 0} → Tells says Fit → (Fit → ⊥) → says ≡ false
+unfit-says true t n = absurd (n (t .holds refl))
+unfit-says false t n = refl
+
+-- two tests of what fits alike say the same
+pub same-says : (a b : Bool) {Fit Other : Type 0} → Tells a Fit → Tells b Other → (Fit → Other) → (Other → Fit) → a ≡ b
+same-says a true t u to from = fit-says a t (from (u .holds refl))
+same-says a false t u to from = unfit-says a t (λ f. u .fails refl (to f))
+
 le-tells : (a b : ℕ) → Tells (leb a b) (a ≤ b)
 le-tells a b = record { holds = leb-true a b; fails = λ e. not-le (leb-false a b e) }
   where
@@ -73,26 +87,29 @@ module _ (says : List Row → ℕ → Bool) (rows : List Row) (m : ℕ) (Fit : T
       go (outside s c) e = absurd (eqb-false 15 0 refl (ap (λ (a : Answer). a .refusal) e))
       go (asks s l h) e = (s, l, h, tells .holds (yes-holds (says rows m) (ap (λ (a : Answer). a .value) e)))
 
-  -- the inequality is a yes
-  pub means-yes : Sound rows → 1 ≤ m → m ≤ 64 → Fit → askedBy says rows m ≡ accepted 1
+  -- on a sound board and for a core count in its range it is yes or no
+  told : Sound rows → 1 ≤ m → m ≤ 64 → askedBy says rows m ≡ accepted (one (says rows m))
   unfolding askedBy
-  means-yes s low high f = go (before rows m)
+  told s low high = go (before rows m)
     where
-      holds-yes : (b : Bool) → says rows m ≡ b → one b ≡ 1
-      holds-yes true e = refl
-      holds-yes false e = absurd (tells .fails e f)
-
-      go : {o : Outcome} → Before rows m o → onOutcome refused (accepted (one (says rows m))) o ≡ accepted 1
+      go : {o : Outcome} → Before rows m o → onOutcome refused (accepted (one (says rows m))) o ≡ accepted (one (says rows m))
       go (unsound u) = absurd (u s)
       go (outside t c) = absurd (⊎-elim (λ (z : m ≡ 0). omega arith) (λ (g : 64 < m). omega arith) c)
-      go (asks t l h) = ap accepted (holds-yes (says rows m) refl)
+      go (asks t l h) = refl
+
+  -- yes where the inequality holds, no where it doesn't
+  pub means-yes : Sound rows → 1 ≤ m → m ≤ 64 → Fit → askedBy says rows m ≡ accepted 1
+  means-yes s low high f = told s low high ∙ ap (λ (b : Bool). accepted (one b)) (fit-says (says rows m) tells f)
+
+  pub means-no : Sound rows → 1 ≤ m → m ≤ 64 → (Fit → ⊥) → askedBy says rows m ≡ accepted 0
+  means-no s low high n = told s low high ∙ ap (λ (b : Bool). accepted (one b)) (unfit-says (says rows m) tells n)
 
 -- the two verdicts
 module _ (rows : List Row) (m : ℕ) where
-  fits-told : Tells (verdict rows m) (Fits rows m)
+  pub fits-told : Tells (verdict rows m) (Fits rows m)
   fits-told = le-tells _ _
 
-  fits-to-end-told : Tells (verdictToEnd rows m) (FitsToEnd rows m)
+  pub fits-to-end-told : Tells (verdictToEnd rows m) (FitsToEnd rows m)
   fits-to-end-told = le-tells _ _
 
   pub yes-fits : asked rows m ≡ accepted 1 → Fits rows m

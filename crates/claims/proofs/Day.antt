@@ -31,7 +31,7 @@ use Rattle.boards.proofs.Fractions.{RoundedUp, Rounded, yes-exact, exact-yes, y
 use Rattle.overheads.proofs.Overhead.{quotient, greatest-shortest, overhead-is}
 use Rattle.boards.proofs.Keeping.{one-row}
 use Rattle.admissions.specs.Admission.{rowOf}
-use Rattle.claims.specs.Calls.{State}
+use Rattle.claims.specs.Calls.{State, emptyDay}
 use Rattle.claims.specs.Plan.{exactDeadline}
 use Rattle.claims.specs.Day.{Among, RowIs, OneRow, ofAll, allNodes, longestRun, overheadOfAll, OwnTimes, DayHolds, Day}
 use Rattle.claims.proofs.Plan.{good-plan}
@@ -161,6 +161,19 @@ module _ {s : State} (p : Paired s) where
     yes-exact-to-end = λ m y. yes-exact-to-end m all-rounded overhead-rounded (yes-fits-to-end (s .rows) m y);
     roomy-yes-to-end = λ m low high room. fits-yes-to-end (s .rows) m (p .sound) low high (exact-yes-to-end m all-rounded overhead-rounded low (let few = few-nodes in omega arith) room);
   }
+
+-- the empty board has no table, so that S, M and r are 0
+pub no-sum : sumOf (emptyDay .rows) ≡ 0
+unfolding sumsOf
+no-sum = sums-same paired-empty
+
+pub no-largest : largestOf (emptyDay .rows) ≡ 0
+unfolding maxOf
+no-largest = largest-same paired-empty
+
+pub no-overhead : overheadOf (emptyDay .rows) ≡ 0
+unfolding maxOf
+no-overhead = overhead-greatest paired-empty
 
 -- after every list of calls
 pub day : Day

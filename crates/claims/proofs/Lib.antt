@@ -14,5 +14,7 @@ mod Standing
 mod Pairing
 mod Verdict
 pub mod Day
+mod Within
+pub mod Sales
 pub mod Starred
 pub mod Promises

@@ -9,6 +9,7 @@ use Rattle.claims.proofs.Print.{of-printing}
 use Rattle.claims.proofs.Diagram.{tables-timed}
 use Rattle.claims.proofs.Cost.{of-cost}
 use Rattle.claims.proofs.Day.{day}
+use Rattle.claims.proofs.Sales.{of-sales}
 use Rattle.claims.proofs.Starred.{all-come}
 
 -- they hold
@@ -24,5 +25,6 @@ promises = record {
   tables-timed = tables-timed;
   cost = of-cost;
   day = day;
+  sales = of-sales;
   starred = all-come;
 }

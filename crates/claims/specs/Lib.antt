@@ -12,5 +12,6 @@ pub mod Diagram
 pub mod Cost
 pub mod Calls
 pub mod Day
+pub mod Sales
 pub mod Starred
 pub mod Promises

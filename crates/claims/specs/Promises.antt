@@ -9,6 +9,7 @@ use Rattle.claims.specs.Print.{OfPrinting}
 use Rattle.claims.specs.Diagram.{TablesTimed}
 use Rattle.claims.specs.Cost.{OfCost}
 use Rattle.claims.specs.Day.{Day}
+use Rattle.claims.specs.Sales.{OfSales}
 use Rattle.claims.specs.Starred.{Starred}
 
 -- the promises
@@ -27,5 +28,7 @@ pub record Promises : Type 0 where
   pub cost : OfCost
   -- demand 3: the board after any list of calls
   pub day : Day
+  -- what the sales sheet says of the verdicts
+  pub sales : OfSales
   -- the starred tables
   pub starred : Starred

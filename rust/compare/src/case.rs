@@ -1,7 +1,7 @@
 //! One case: buffers as they are lent, and calls made on them in turn, by
 //! the library and by the reference, each on its own copy.
 
-use crate::rounds;
+use crate::{rounds, sales};
 use reference::{Answer, Row};
 
 #[derive(Clone, PartialEq)]
@@ -37,14 +37,14 @@ pub struct Case {
 }
 
 /// The first call after which the two sides aren't equal, or the library's
-/// answer breaks a rule of loops.
+/// answer breaks a rule of loops or a promise of the sales sheet.
 pub struct Difference {
     pub call: usize,
     pub library: Answer,
     pub reference: Answer,
     /// The first differing word, row or byte, if it is in a buffer.
     pub spot: Option<String>,
-    /// The rule of loops that the library's answer breaks.
+    /// The rule or promise that the library's answer breaks.
     pub broken: Option<&'static str>,
 }
 
@@ -79,7 +79,8 @@ pub fn difference(case: &Case) -> Option<Difference> {
     for (at, call) in case.calls.iter().enumerate() {
         let library_answer = library.make(call, &LIBRARY);
         let reference_answer = reference.make(call, &REFERENCE);
-        let broken = rounds::broken(call, &library_answer);
+        let broken = rounds::broken(call, &library_answer)
+            .or_else(|| sales::broken(call, &library_answer, library.board.inside()));
         if library_answer != reference_answer || library != reference || broken.is_some() {
             return Some(Difference {
                 call: at,

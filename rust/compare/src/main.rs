@@ -14,6 +14,7 @@ mod random;
 mod records;
 mod report;
 mod rounds;
+mod sales;
 mod shrink;
 mod stored;
 mod tasks;
