@@ -8,5 +8,4 @@ pub mod Figures
 pub mod Fractions
 pub mod Nodes
 pub mod Sides
-pub mod Dense
 pub mod Held

@@ -4,23 +4,23 @@ use mathlib.Core.Path.{_≡_, refl, sym, subst, _∙_}
 use mathlib.Core.Logic.{_⊎_, inl, inr, ⊎-elim}
 use mathlib.Core.Bool.{true, false}
 use mathlib.Core.List.{List}
-use Prim.Native.Nat.{ℕ, _+_, _-_, _*_, _%_, _≤_, _<_, zero-le}
+use Prim.Native.Nat.{ℕ, _*_, _%_, _≤_, _<_, zero-le}
 use native.Mathlib.Nat.{le-trans, mul-le-mul}
 use native.Mathlib.Omega.{arith}
 use lib.Dec.{eqb, leb}
 use lib.ListN.{length, replicate}
 use borrow.Author.Tests.{eqb-true, eqb-false, eq-eqb, ne-eqb, leb-true, le-leb}
 use Rattle.plain.specs.Pick.{pick}
-use Rattle.plain.specs.Sums.{sumTo, maxTo}
-use Rattle.plain.proofs.Sums.{sumTo-le, maxTo-le}
-use Rattle.tables.specs.Limits.{idMax, periodMax, countMax, runMax, overMax, densityMax, million}
+use Rattle.plain.proofs.Sums.{sum-mono, sumTo-le, maxTo-le}
+use Rattle.tables.specs.Limits.{idMax, periodMax, countMax, runMax, overMax, densityMax}
 use Rattle.sets.specs.Member.{Member}
 use Rattle.boards.specs.declared.Row.{Row}
 use Rattle.boards.specs.Row.{freeRow, rowsMax, rowAt}
 use Rattle.boards.specs.Sound.{Standing, Sound, between, isBare, isUntimed, isFree, isDense, isTimed, isStanding, isSoundRow, isNew, isSound, allTo}
-use Rattle.boards.specs.Verdict.{sumOf, largestOf, verdict}
+use Rattle.boards.specs.Verdict.{sumOf, largestOf}
 use Rattle.plain.proofs.Picks.{true-false, pick-case}
 use Rattle.boards.proofs.Tests.{both-true, true-both, between-true, true-between, allTo-true, true-allTo, allTo-same}
+use Rattle.boards.proofs.Figures.{max-le-sum}
 
 -- a free row
 pub free-test : (r : Row) → isFree r ≡ true → r ≡ freeRow
@@ -158,19 +158,14 @@ module _ {rows : List Row} (s : Sound rows) where
   unfolding largestOf
   largestOf-le = maxTo-le rowsMax densityMax _ row-largest-le
 
+  -- and S is at least M, because each row's sum is at least its largest
+  pub largest-le-sum : largestOf rows ≤ sumOf rows
+  unfolding sumOf largestOf
+  largest-le-sum =
+      le-trans (max-le-sum rowsMax (λ k. rowAt rows k .largest))
+      (sum-mono rowsMax _ (λ k. rowAt rows k .sum) (each-row (λ r. r .largest ≤ r .sum) zero-le (λ r t. t .sum-low)))
+
 -- the empty board is sound
 pub empty-sound : Sound (replicate rowsMax freeRow)
 unfolding isSound isSoundRow isNew allTo
 empty-sound = sound-test (replicate rowsMax freeRow) refl
-
--- S and M are 0 there, so it is a yes for any number of cores
-empty-sum : sumOf (replicate rowsMax freeRow) ≡ 0
-unfolding sumOf sumTo
-empty-sum = refl
-
-empty-largest : largestOf (replicate rowsMax freeRow) ≡ 0
-unfolding largestOf maxTo
-empty-largest = refl
-
-pub empty-yes : (m : ℕ) → verdict (replicate rowsMax freeRow) m ≡ true
-empty-yes m = rw (empty-sum, empty-largest) (le-leb (0 + (m - 1) * 0) (m * million) (omega arith))

@@ -1,6 +1,6 @@
 -- Asking for a verdict answers by its rules, and a yes is its inequality, whichever of the two verdicts it is.
 use mathlib.Core.Path.{_≡_, refl, sym, ap, _∙_}
-use mathlib.Core.Logic.{_⊎_, inl, inr, ⊎-elim}
+use mathlib.Core.Logic.{inl, inr, ⊎-elim}
 use mathlib.Core.Bool.{Bool, true, false}
 use mathlib.Core.List.{List}
 use Prim.Native.Nat.{ℕ, _≤_, _<_}
@@ -17,6 +17,7 @@ use Rattle.boards.specs.Sound.{Sound}
 use Rattle.boards.specs.Verdict.{verdict}
 use Rattle.overheads.specs.ToEnd.{verdictToEnd, askedToEnd}
 use Rattle.boards.specs.Change.{askedBy, asked}
+use Rattle.boards.proofs.Tests.{not-held}
 use Rattle.boards.proofs.Cases.{Before, before}
 use Rattle.boards.proofs.Cases.Before.{unsound, outside, asks}
 use Rattle.planner.specs.Calls.{askCall, askToEndCall}
@@ -37,8 +38,7 @@ fit-says true t f = refl
 fit-says false t f = absurd (t .fails refl f)
 
 unfit-says : (says : Bool) {Fit : Type 0} → Tells says Fit → (Fit → ⊥) → says ≡ false
-unfit-says true t n = absurd (n (t .holds refl))
-unfit-says false t n = refl
+unfit-says says t n = not-held says (λ e. n (t .holds e))
 
 -- two tests of what fits alike say the same
 pub same-says : (a b : Bool) {Fit Other : Type 0} → Tells a Fit → Tells b Other → (Fit → Other) → (Other → Fit) → a ≡ b

@@ -7,7 +7,7 @@ use mathlib.Core.List.{List}
 use Prim.Native.Nat.{ℕ, _+_, _-_, _*_, _≤_, _<_, zero-le}
 use native.Mathlib.Nat.{le-trans, mul-add, add-mul, mul-le-mul-left, le-of-mul-le-mul-left}
 use native.Mathlib.Omega.{arith}
-use Rattle.plain.proofs.Sums.{maxTo-le, le-maxTo, sum-under}
+use Rattle.plain.proofs.Sums.{le-maxTo}
 use Rattle.tables.specs.Limits.{million}
 use Rattle.plans.specs.Shares.{density}
 use Rattle.boards.specs.declared.Row.{Row}
@@ -15,7 +15,7 @@ use Rattle.boards.specs.Row.{rowsMax, rowAt}
 use Rattle.boards.specs.Sound.{Sound}
 use Rattle.boards.specs.Verdict.{sumOf, largestOf, verdict}
 use Rattle.boards.specs.Change.{askedBy}
-use Rattle.boards.proofs.Sound.{test-sound, each-row}
+use Rattle.boards.proofs.Sound.{test-sound, largest-le-sum}
 use Rattle.overheads.specs.ToEnd.{overheadOf, verdictToEnd}
 use Rattle.admissions.specs.Admission.{rowOf}
 use Rattle.claims.specs.Calls.{emptyDay, boardAfter}
@@ -24,13 +24,6 @@ use Rattle.claims.proofs.Ask.{Tells, same-says, yes-means, means-yes, m
 use Rattle.claims.proofs.Pairing.{paired-empty, paired-calls}
 use Rattle.claims.proofs.Within.{Within, sum-within, largest-within, overhead-within, withdrawn-within, day-within}
 use Rattle.claims.proofs.Day.{no-sum, no-largest, no-overhead}
-
--- S is at least M
-largest-summed : {rows : List Row} → Sound rows → largestOf rows ≤ sumOf rows
-unfolding largestOf sumOf
-largest-summed {rows} s = maxTo-le rowsMax _ _ (λ k h. le-trans
-    (each-row s (λ r. r .largest ≤ r .sum) zero-le (λ r t. t .sum-low) k h)
-    (let under = sum-under (λ j. rowAt rows j .sum) k rowsMax h in omega arith))
 
 -- "S + (m − 1) × M + m × r"
 abbrev Left : (s l r m : ℕ) → ℕ
@@ -89,7 +82,7 @@ module _ (says : List Row → ℕ → Bool) (r : List Row → ℕ)
     unfolding largestOf
     none-denser {rows} s m low fits k h =
         let most = le-maxTo rowsMax (λ j. rowAt rows j .largest) k h in
-        let room = peak (sumOf rows) (largestOf rows) (r rows) m (largest-summed s) low fits in
+        let room = peak (sumOf rows) (largestOf rows) (r rows) m (largest-le-sum s) low fits in
         omega arith
 
     -- the promises
@@ -101,7 +94,7 @@ module _ (says : List Row → ℕ → Bool) (r : List Row → ℕ)
           fits-yes _ m (w .sound) low high (fits-within w m fits);
       larger-count = λ rows m n y more high.
           let (s, low, most, fits) = yes-fits rows m y in
-          fits-yes rows n s (omega arith) (omega arith) (further (sumOf rows) (largestOf rows) (r rows) m n (largest-summed s) low (omega arith) fits);
+          fits-yes rows n s (omega arith) (omega arith) (further (sumOf rows) (largestOf rows) (r rows) m n (largest-le-sum s) low (omega arith) fits);
       same-tasks = λ calls others same.
           let p = paired-calls calls paired-empty in
           let q = paired-calls others paired-empty in

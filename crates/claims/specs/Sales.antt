@@ -20,9 +20,9 @@ use Rattle.claims.specs.Day.{Among}
 abbrev pub SameTasks : List TaskTable → List TaskTable → Type 0
 SameTasks ts us = (t : TaskTable) → Among t ts ↔ Among t us
 
--- row k has a density above one
-abbrev pub TooDense : List Row → ℕ → Type 0
-TooDense rows k = 1000000 < rowAt rows k .largest
+-- a density above one, in millionths
+abbrev pub AboveOne : ℕ → Type 0
+AboveOne density = 1000000 < density
 
 -- "asking returns yes or no": yes is 1
 abbrev pub yes : Answer
@@ -41,9 +41,9 @@ pub record OfVerdict (answer : List Row → ℕ → Answer) : Type 0 where
   -- "two sequences which leave the same tasks standing .. give equal .. verdicts", whatever else was called, in whatever rows the tasks stand
   pub same-tasks : (calls others : List Call) → SameTasks (standingAfter calls) (standingAfter others) → (m : ℕ) → answer (boardAfter calls) m ≡ answer (boardAfter others) m
   -- a board that holds a density above one is a no for 1 to 64 cores
-  pub too-dense : (rows : List Row) (m : ℕ) → Sound rows → SomeRow (TooDense rows) → 1 ≤ m → m ≤ 64 → answer rows m ≡ no
+  pub too-dense : (rows : List Row) (m : ℕ) → Sound rows → SomeRow (λ k. AboveOne (rowAt rows k .largest)) → 1 ≤ m → m ≤ 64 → answer rows m ≡ no
   -- so is one on which a task stands with such a step
-  pub dense-step : (calls : List Call) (t : TaskTable) (v m : ℕ) → Among t (standingAfter calls) → v < t .count → 1000000 < density t v → 1 ≤ m → m ≤ 64 → answer (boardAfter calls) m ≡ no
+  pub dense-step : (calls : List Call) (t : TaskTable) (v m : ℕ) → Among t (standingAfter calls) → v < t .count → AboveOne (density t v) → 1 ≤ m → m ≤ 64 → answer (boardAfter calls) m ≡ no
   -- the empty board is a yes for 1 to 64 cores
   pub empty-board : (m : ℕ) → 1 ≤ m → m ≤ 64 → answer (emptyDay .rows) m ≡ yes
 
