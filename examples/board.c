@@ -1,18 +1,30 @@
-/* Plans a task, admits it, asks for both verdicts and withdraws it, through planner.h; shows where another goes round,
- * what a unit for a join costs, what a dispatch cost changes, and what steps that run to their end ask for. */
+/* Two ways to use the planner, through planner.h. At the gateway a task is admitted for the gateway's cores, and what
+ * would not fit is turned away. At the desk tasks are planned and noted, and any number of cores can be asked for. */
 #include <inttypes.h>
 #include <stdio.h>
-#include <string.h>
 
 #include "planner.h"
 
-/* The nodes of a set, node k being bit k. */
-static void show_nodes(uint64_t set)
-{
-    for (unsigned node = 0; node < 64; node++)
-        if ((set >> node) & 1)
-            printf(" %u", node);
-}
+/* Records: edition, id, period, number of nodes; then for each node its execution, how many parents it has, and these.
+ * Two door drives, 3 units in a period of 12 and 5 in one of 15. */
+static const uint8_t front[] = {0x01, 0x01, 0x0C, 0x01, 0x03, 0x00};
+static const uint8_t rear[] = {0x01, 0x02, 0x0F, 0x01, 0x05, 0x00};
+/* join.task, a stop at a landing: three steps meet in node 3, three more in node 7; in edition 2 these two run nothing. */
+static const uint8_t stop[] = {
+    0x02, 0x2B, 0x3C, 0x0B,                               /* edition, id 43, period 60, 11 nodes */
+    0x04, 0x00, 0x03, 0x00, 0x03, 0x00,                   /* nodes 0 to 2: no parents */
+    0x00, 0x03, 0x00, 0x01, 0x02,                         /* 3, a join */
+    0x06, 0x01, 0x03, 0x04, 0x01, 0x03, 0x05, 0x01, 0x03, /* 4 to 6 */
+    0x00, 0x03, 0x04, 0x05, 0x06,                         /* 7, a join */
+    0x05, 0x01, 0x07, 0x04, 0x01, 0x07, 0x03, 0x01, 0x07, /* 8 to 10 */
+};
+/* The front door with its period padded: 8C 00 for 0C. */
+static const uint8_t padded[] = {0x01, 0x01, 0x8C, 0x00, 0x01, 0x03, 0x00};
+/* Four steps that cannot be run: node 1 waits for 3 (and for 0), 3 for 2 and 2 for 1. */
+static const uint8_t looped[] = {0x01, 0x2D, 0x78, 0x04, 0x04, 0x00, 0x05, 0x02, 0x00, 0x03,
+                                 0x07, 0x01, 0x01, 0x08, 0x01, 0x02};
+
+static uint64_t words[PLANNER_WORDS]; /* the plan of the task last planned */
 
 static void show(const char *call, struct planner_answer a)
 {
@@ -21,25 +33,16 @@ static void show(const char *call, struct planner_answer a)
         return;
     }
     printf("%s: refused %" PRIu64 " at %" PRIu64, call, a.refusal, a.place);
-    if (a.ring != 0) {
+    if (a.ring != 0)
         printf(", ring");
-        show_nodes(a.ring);
-    }
+    for (unsigned node = 0; node < 64; node++)
+        if ((a.ring >> node) & 1)
+            printf(" %u", node);
     printf("\n");
 }
 
-/* join.task: three steps meet in node 3, three more in node 7; in edition 2 these two run nothing. */
-static const uint8_t join[] = {
-    0x02, 0x2B, 0x3C, 0x0B,                               /* edition, id 43, period 60, 11 nodes */
-    0x04, 0x00, 0x03, 0x00, 0x03, 0x00,                   /* nodes 0 to 2: no parents */
-    0x00, 0x03, 0x00, 0x01, 0x02,                         /* 3, a join */
-    0x06, 0x01, 0x03, 0x04, 0x01, 0x03, 0x05, 0x01, 0x03, /* 4 to 6 */
-    0x00, 0x03, 0x04, 0x05, 0x06,                         /* 7, a join */
-    0x05, 0x01, 0x07, 0x04, 0x01, 0x07, 0x03, 0x01, 0x07, /* 8 to 10 */
-};
-
-/* Both verdicts: steps may be interrupted, or run to their end. */
-static void ask_both(const struct planner_row *board, uint64_t cores)
+/* Both verdicts, 1 for yes and 0 for no: steps may be interrupted, or run to their end. */
+static void ask(const struct planner_row *board, uint64_t cores)
 {
     char call[32];
 
@@ -49,98 +52,65 @@ static void ask_both(const struct planner_row *board, uint64_t cores)
     show(call, planner_ask_to_end(board, PLANNER_ROWS, cores));
 }
 
-/* A task's path, and the verdicts for four cores where it stands alone. */
-static void show_alone(const char *name, const uint8_t *record, uint64_t length, uint64_t cost)
+static struct planner_answer admit(struct planner_row *board, const uint8_t *record, uint64_t length)
 {
-    uint64_t words[PLANNER_WORDS] = {0};
-    struct planner_row board[PLANNER_ROWS] = {0};
-    uint64_t path = 0;
+    const uint64_t cores = 3, cost = 0; /* of the gateway */
 
-    show(name, planner_admit(record, length, words, PLANNER_WORDS, board, PLANNER_ROWS, cost));
-    for (uint64_t segment = 0; segment < words[1]; segment++)
-        path += words[3 + 3 * segment + 1];
-    printf("path %" PRIu64 ", over %" PRIu64 "\n", path, words[0]);
-    ask_both(board, 4);
+    return planner_admit(record, length, words, PLANNER_WORDS, board, PLANNER_ROWS, cores, cost);
 }
 
-/* unit.task: the same as task 44 in edition 1, with a unit for each of the two. */
-static void show_unit(void)
+/* The commissioning engineer's way. The verdict for the gateway's cores is a yes all the time. */
+static void at_the_gateway(void)
 {
-    uint8_t unit[sizeof join];
+    struct planner_row board[PLANNER_ROWS] = {0}; /* empty */
+    struct planner_answer a;
 
-    memcpy(unit, join, sizeof join);
-    unit[0] = 0x01;  /* edition */
-    unit[1] = 0x2C;  /* id 44 */
-    unit[10] = 0x01; /* 3, a step now */
-    unit[24] = 0x01; /* 7, a step now */
-    show_alone("admit unit", unit, sizeof unit, 0);
+    show("admit front door", admit(board, front, sizeof front));
+    show("admit rear door", admit(board, rear, sizeof rear));
+    a = admit(board, stop, sizeof stop);
+    show("admit stop", a);
+    if (a.refusal == 20) { /* three cores do not bear all three tasks, so one has to go */
+        show("withdraw 2", planner_withdraw(board, PLANNER_ROWS, 2));
+        show("admit stop", admit(board, stop, sizeof stop));
+    }
+    ask(board, 3);
 }
 
-/* join.task again: each of its nine steps pays the cost, three of them on the longest way; its two joins pay nothing. */
-static void show_cost(void)
+static void plan(const char *call, const uint8_t *record, uint64_t length, uint64_t cost)
 {
-    uint64_t words[PLANNER_WORDS];
-
-    show_alone("admit join at cost 3", join, sizeof join, 3);
-    show("plan join at cost 16", planner_plan(join, sizeof join, words, PLANNER_WORDS, 16));
-    show("plan join at cost 256", planner_plan(join, sizeof join, words, PLANNER_WORDS, 256));
+    show(call, planner_plan(record, length, words, PLANNER_WORDS, cost));
 }
 
-/* Two door drives, 3 units in a period of 12 and 5 in one of 15. Alone the first may run to its end on one core; beside
- * the second it may wait for 5 units of its 12, and one core is too few. */
-static void show_to_end(void)
+static struct planner_answer note(struct planner_row *board, const uint8_t *record, uint64_t length)
 {
-    static const uint8_t first[] = {0x01, 0x01, 0x0C, 0x01, 0x03, 0x00};
-    static const uint8_t second[] = {0x01, 0x02, 0x0F, 0x01, 0x05, 0x00};
-    uint64_t words[PLANNER_WORDS];
+    return planner_note(record, length, words, PLANNER_WORDS, board, PLANNER_ROWS, 0);
+}
+
+/* The desk's way: whatever has a plan goes on the board. */
+static void at_the_desk(void)
+{
     struct planner_row board[PLANNER_ROWS] = {0};
 
-    show("admit 3 in 12", planner_admit(first, sizeof first, words, PLANNER_WORDS, board, PLANNER_ROWS, 0));
-    ask_both(board, 1);
-    show("admit 5 in 15", planner_admit(second, sizeof second, words, PLANNER_WORDS, board, PLANNER_ROWS, 0));
-    for (unsigned row = 0; row < 2; row++)
-        printf("row %u: longest %" PRIu64 ", shortest %" PRIu64 " over %" PRIu64 "\n", row, board[row].longest,
-               board[row].shortest, board[row].over);
-    ask_both(board, 1);
-    ask_both(board, 2);
+    plan("plan stop", stop, sizeof stop, 0);
+    printf("over %" PRIu64 ", %" PRIu64 " segments, %" PRIu64 " nodes\n", words[0], words[1], words[2]);
+    plan("plan stop at cost 16", stop, sizeof stop, 16);
+    plan("plan stop at cost 256", stop, sizeof stop, 256);
+    plan("plan padded", padded, sizeof padded, 0);
+    plan("plan looped", looped, sizeof looped, 0);
+    show("note front door", note(board, front, sizeof front));
+    show("note rear door", note(board, rear, sizeof rear));
+    show("note rear door again", note(board, rear, sizeof rear));
+    ask(board, 1);
+    ask(board, 2);
+    show("note stop", note(board, stop, sizeof stop));
+    ask(board, 3);
+    ask(board, 4);
+    ask(board, 0);
 }
 
 int main(void)
 {
-    /* Document 01's listing: task 3, period 6, three nodes, node 2 waits for node 1. */
-    static const uint8_t record[] = {0x01, 0x03, 0x06, 0x03, 0x03, 0x00, 0x01, 0x00, 0x01, 0x01, 0x01};
-    /* The same with its period padded: 86 00 for 06. */
-    static const uint8_t padded[] = {0x01, 0x03, 0x86, 0x00, 0x03, 0x03, 0x00, 0x01, 0x00, 0x01, 0x01, 0x01};
-    /* tangle.task: steps 5, 6 and 9 of 12 wait for each other. */
-    static const uint8_t tangle[] = {
-        0x01, 0x2A, 0x78, 0x0C,                         /* edition, id 42, period 120, 12 nodes */
-        0x04, 0x00, 0x04, 0x00, 0x03, 0x00, 0x02, 0x00, /* nodes 0 to 3: no parents */
-        0x05, 0x02, 0x00, 0x01,                         /* 4 */
-        0x07, 0x03, 0x02, 0x03, 0x06,                   /* 5 */
-        0x05, 0x02, 0x03, 0x09,                         /* 6 */
-        0x05, 0x01, 0x02,                               /* 7 */
-        0x09, 0x03, 0x04, 0x05, 0x06,                   /* 8 */
-        0x08, 0x02, 0x04, 0x05,                         /* 9 */
-        0x09, 0x02, 0x04, 0x07,                         /* 10 */
-        0x0A, 0x02, 0x06, 0x07,                         /* 11 */
-    };
-    static uint64_t words[PLANNER_WORDS];
-    static struct planner_row board[PLANNER_ROWS];
-
-    show("plan", planner_plan(record, sizeof record, words, PLANNER_WORDS, 0));
-    printf("over %" PRIu64 ", %" PRIu64 " segments, %" PRIu64 " nodes\n", words[0], words[1], words[2]);
-    show("plan padded", planner_plan(padded, sizeof padded, words, PLANNER_WORDS, 0));
-    show("plan tangle", planner_plan(tangle, sizeof tangle, words, PLANNER_WORDS, 0));
-    show("admit", planner_admit(record, sizeof record, words, PLANNER_WORDS, board, PLANNER_ROWS, 0));
-    show("admit again", planner_admit(record, sizeof record, words, PLANNER_WORDS, board, PLANNER_ROWS, 0));
-    ask_both(board, 1);
-    ask_both(board, 2);
-    ask_both(board, 0);
-    show("withdraw 3", planner_withdraw(board, PLANNER_ROWS, 3));
-    show("withdraw 3 again", planner_withdraw(board, PLANNER_ROWS, 3));
-    show_alone("admit join", join, sizeof join, 0);
-    show_unit();
-    show_cost();
-    show_to_end();
+    at_the_gateway();
+    at_the_desk();
     return 0;
 }

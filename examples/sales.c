@@ -15,21 +15,21 @@ static const uint8_t four[] = {0x01, 0x09, 0x04, 0x04, 0x02, 0x00, 0x01, 0x01, 0
 
 static struct planner_row board[PLANNER_ROWS];
 
-static void admit(const uint8_t *record, uint64_t length, uint64_t cost)
+static void note(const uint8_t *record, uint64_t length, uint64_t cost)
 {
     uint64_t words[PLANNER_WORDS];
-    struct planner_answer a = planner_admit(record, length, words, PLANNER_WORDS, board, PLANNER_ROWS, cost);
+    struct planner_answer a = planner_note(record, length, words, PLANNER_WORDS, board, PLANNER_ROWS, cost);
 
     if (a.refusal != 0)
         printf("refused %" PRIu64 " at %" PRIu64 "\n", a.refusal, a.place);
 }
 
-static void admit_all(uint64_t cost)
+static void note_all(uint64_t cost)
 {
     memset(board, 0, sizeof board);
-    admit(calls, sizeof calls, cost);
-    admit(panel, sizeof panel, cost);
-    admit(doors, sizeof doors, cost);
+    note(calls, sizeof calls, cost);
+    note(panel, sizeof panel, cost);
+    note(doors, sizeof doors, cost);
 }
 
 typedef struct planner_answer ask_for(const struct planner_row *, uint64_t, uint64_t);
@@ -82,14 +82,14 @@ static void show_same_tasks(void)
 {
     struct planner_answer one[132], other[132];
 
-    admit_all(0);
+    note_all(0);
     ask_all(one);
     memset(board, 0, sizeof board);
-    admit(four, sizeof four, 0);
-    admit(doors, sizeof doors, 0);
+    note(four, sizeof four, 0);
+    note(doors, sizeof doors, 0);
     planner_withdraw(board, PLANNER_ROWS, 9);
-    admit(panel, sizeof panel, 0);
-    admit(calls, sizeof calls, 0);
+    note(panel, sizeof panel, 0);
+    note(calls, sizeof calls, 0);
     show_rows();
     ask_all(other);
     printf("answers for 0 to 65 cores: %s the same\n", memcmp(one, other, sizeof one) == 0 ? "all" : "not all");
@@ -98,15 +98,15 @@ static void show_same_tasks(void)
 int main(void)
 {
     show("empty board");
-    admit_all(0);
+    note_all(0);
     show_rows();
     show("three tasks");
     planner_withdraw(board, PLANNER_ROWS, 3);
     show("without the doors");
     show_same_tasks();
-    admit(four, sizeof four, 0);
+    note(four, sizeof four, 0);
     show("with a step that has half its running time");
-    admit_all(1);
+    note_all(1);
     show("the three at a cost of 1");
     return 0;
 }

@@ -1,4 +1,4 @@
-/* The planner's five calls. A call returns for every content of what it is lent; a refusal changes nothing. The caller
+/* The planner's six calls. A call returns for every content of what it is lent; a refusal changes nothing. The caller
  * sees to the memory, in each call:
  *   - A length is 64 bits on every machine. It counts bytes of a record, words of a plan, rows of a board.
  *   - Each pointer is not NULL and valid for its length.
@@ -13,7 +13,7 @@
 #include <stdint.h>
 
 /* Goes up with each release that changes a call's parameters or a struct's fields. Version 1 had no such number. */
-#define PLANNER_VERSION 4
+#define PLANNER_VERSION 5
 
 /* The most words that a plan has; a smaller buffer is refused by 16. */
 #define PLANNER_WORDS 387
@@ -23,14 +23,14 @@
 
 /* What a call answers. refusal 0: accepted, and value holds what the call returns. Otherwise refusal is the number of
  * the rule that was broken, value 0, and place where it was met: a byte of the record (for 1 the record's length), for 10
- * the smallest node that waits for itself, and 0 for 11 to 17, 21 and 26. ring (since version 2) is for 10 the set of nodes
- * of one loop through that node, node k as bit k, from which none can be left out; with every other answer it is 0.
+ * the smallest node that waits for itself, and 0 for 11 to 17, 20, 21 and 26. ring (since version 2) is for 10 the set of
+ * nodes of one loop through that node, node k as bit k, from which none can be left out; with every other answer it is 0.
  * Refusals: 1 the record ends too early; 2 a number's fourth byte has its top bit set; 3 the edition is neither 1 nor
  * 2; 4 id, 5 period, 6 node count, 7 execution (from 1 in edition 1, from 0 in edition 2) out of range; 8 a parent
  * count or parent out of range or order; 9 bytes follow the record; 10 a node waits for itself, over others or not; 11
  * the path is longer than the period; 12 the id stands already; 13 no row is free; 14 no task with this id stands; 15
- * no such number of cores; 16 too few words; 17 the board isn't sound; 18 a number isn't in its shortest form; 21 all
- * executions are 0; 26 the cost is above 255. */
+ * no such number of cores; 16 too few words; 17 the board isn't sound; 18 a number isn't in its shortest form; 20 with
+ * the task the verdict would be no; 21 all executions are 0; 26 the cost is above 255. */
 struct planner_answer {
     uint64_t refusal;
     uint64_t place;
@@ -39,10 +39,10 @@ struct planner_answer {
 };
 
 /* One row of the board. A free row is all zeros: a board of 16 such rows is empty. sum and largest are the total and
- * the largest of the task's node densities at the cost it was admitted with, in millionths. longest, shortest and over
+ * the largest of the task's node densities at the cost it came in with, in millionths. longest, shortest and over
  * (since version 4) are, at that cost, its longest execution, its smallest deadline numerator and its Q; nodes with
- * execution 0 do not count in them. Rows of an older version have to be admitted anew. Only the calls below should write
- * rows. */
+ * execution 0 do not count in them. A board of before version 4 has to be made anew from the records. Only the calls
+ * below should write rows. */
 struct planner_row {
     uint64_t id;
     uint64_t nodes;
@@ -64,12 +64,21 @@ struct planner_row {
 struct planner_answer planner_plan(const uint8_t *record, uint64_t record_length,
                                    uint64_t *words, uint64_t words_length, uint64_t cost);
 
-/* Plans the task as planner_plan does, at that cost (since version 3), and enters it in the lowest free row of the board.
- * value: the row filled, 0 .. 15. Refusals: 26; 16; 17; 1 to 9 and 18 as met from the left; 21; 10; 11; 12 (the id stands
- * already); 13 (no row is free). */
+/* Since version 5 (before, this was planner_admit): plans the task as planner_plan does, at that cost, and enters it in
+ * the lowest free row of the board, whatever the verdict is then; for trying out at the desk. value: the row filled,
+ * 0 .. 15. Refusals: 26; 16; 17; 1 to 9 and 18 as met from the left; 21; 10; 11; 12 (the id stands already); 13 (no row
+ * is free). */
+struct planner_answer planner_note(const uint8_t *record, uint64_t record_length,
+                                   uint64_t *words, uint64_t words_length,
+                                   struct planner_row *board, uint64_t board_length, uint64_t cost);
+
+/* As planner_note, but it turns away what would not fit (cores and 20 since version 5): a task with which planner_ask
+ * for that many cores (1 .. 64) would answer no, also where it did so before. Where an empty board is filled by this
+ * call alone, for one number of cores, planner_ask for that number answers yes at any time, also after withdrawals.
+ * Refusals: 26; 16; 17; 15 (0 cores, or more than 64); 1 to 9 and 18 as met from the left; 21; 10; 11; 12; 13; 20. */
 struct planner_answer planner_admit(const uint8_t *record, uint64_t record_length,
                                     uint64_t *words, uint64_t words_length,
-                                    struct planner_row *board, uint64_t board_length, uint64_t cost);
+                                    struct planner_row *board, uint64_t board_length, uint64_t cores, uint64_t cost);
 
 /* Frees the row of the task with this id. value: the row freed. Refusals: 17; 14 (no such task; id 0 never stands). */
 struct planner_answer planner_withdraw(struct planner_row *board, uint64_t board_length, uint64_t id);

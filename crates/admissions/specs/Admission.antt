@@ -1,4 +1,5 @@
--- Admitting a task, on a board by value: 26 "before all others"; "Admitting checks 16, 17," the reader's refusals, "10, 11, 12, 13."
+-- Noting a task, which is document 01's admitting, on a board by value: 26 "before all others"; "Admitting checks 16, 17," the reader's refusals, "10,
+-- 11, 12, 13."
 use mathlib.Core.List.{List}
 use Prim.Native.Nat.{ℕ}
 use lib.Dec.{eqb}
@@ -19,7 +20,7 @@ use Rattle.boards.specs.Row.{taskRow}
 use Rattle.boards.specs.Sound.{isSound}
 use Rattle.boards.specs.Change.{unchanged, placed}
 
--- what admitting comes to: the change of the board, and the lent words after it
+-- what noting or admitting comes to: the change of the board, and the lent words after it
 pub record Admission : Type 0 where
   pub change : Change
   pub words : List ℕ
@@ -39,8 +40,8 @@ entered rows words t =
     record { change = c; words = pick (eqb (c .answer .refusal) 0) (written t words) words }
 
 -- 26, 16 by `beforeReading`, 17, then the reader's, 10, 11 by `onTask`, then 12, 13 by `entered`
-unfoldable pub admission : List ℕ → List ℕ → List Row → (cost : ℕ) → Admission
-admission bytes words rows cost =
+unfoldable pub noting : List ℕ → List ℕ → List Row → (cost : ℕ) → Admission
+noting bytes words rows cost =
     onOutcome (notAdmitted rows words)
     (pick (isSound rows) (onTask (notAdmitted rows words) (entered rows words) bytes cost) (notAdmitted rows words (refusal unsoundBoard 0)))
     (beforeReading (length words) cost)

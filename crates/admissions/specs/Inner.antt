@@ -1,2 +1,2 @@
-pub mod IdOnly
 pub mod NoBoard
+pub mod PlanIn

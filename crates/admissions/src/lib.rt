@@ -1,7 +1,8 @@
-// Admitting a task, on a board by value: what changes on the board, and the plan's words.
+// Noting a task, on a board by value: what changes on the board, and the plan's words.
 use boards::Board;
 use boards::Change;
 use boards::Row;
+use plans::Planning;
 use refusals::Answer;
 use refusals::Outcome;
 use tables::TaskTable;
@@ -13,11 +14,11 @@ ghost use Rattle.tables.specs.Inner.Plannable.{Plannable};
 ghost use Rattle.plans.specs.Words.{wordsMax};
 ghost use Rattle.plans.specs.Calls.{onTable};
 ghost use Rattle.boards.specs.Row.{rowsMax};
-ghost use Rattle.admissions.specs.Admission.{notAdmitted, entered, admission};
+ghost use Rattle.admissions.specs.Admission.{rowOf, notAdmitted, entered, noting};
 ghost use Rattle.admissions.specs.Inner.NoBoard.{noBoard};
-ghost use Rattle.admissions.specs.Inner.IdOnly.{idOnly};
+ghost use Rattle.admissions.specs.Inner.PlanIn.{PlanIn};
 
-// What admitting answers where the board doesn't have 16 rows.
+// What noting and admitting answer where the board doesn't have 16 rows.
 pub fn no_board(words: usize, cost: u64) -> Answer
     ensures { λ r. ⌜ r ≡ noBoard words cost ⌝ }
 {
@@ -28,18 +29,31 @@ pub fn no_board(words: usize, cost: u64) -> Answer
     boards::unsound()
 }
 
-// A row to find a place with: 12 and 13 look only at the id.
-fn id_only(id: u64) -> Row
-    ensures { λ r. ⌜ r ≡ idOnly id ⌝ }
+// The row of a task whose plan is in the words.
+pub fn row_of(words: &[u64], id: u64, n: usize, planning: Planning) -> Row
+    requires { ⌜ ((t : TaskTable) × PlanIn t id n planning (now words)) ⌝ }
+    ensures { λ r. ⌜ ((t : TaskTable) → PlanIn t id n planning (now (words .entry)) → r ≡ rowOf t) ⌝ }
 {
-    let mut row = Row::free();
-    row.id = id;
-    row
+    let answer = planning.answer;
+    let from = answer.value as usize - 3 * n;
+    let nodes = &words[from..];
+    let figures = shares::figures_of(nodes, n);
+    let shortest = shares::shortest_of(nodes, n);
+    let over = words[0];
+    Row {
+        id,
+        nodes: n as u64,
+        sum: figures.sum,
+        largest: figures.largest,
+        longest: planning.longest,
+        shortest,
+        over,
+    }
 }
 
-// A task that was read. Its place is found first, since 12 and 13 look only at its id; they are told after 10 and 11, and the words are
+// Notes a task that was read. Its place is found first, since 12 and 13 look only at its id; they are told after 10 and 11, and the words are
 // written only where none of the four is given.
-fn admit_table(words: &mut [u64], table: TaskTable, board: Board, cost: u64) -> Change
+fn note_table(words: &mut [u64], table: TaskTable, board: Board, cost: u64) -> Change
     requires { ⌜ Plannable (costed table cost) × (wordsMax ≤ length (now words)) ⌝ }
     ensures { λ r. ⌜ (r ≡ onTable (notAdmitted (board .rows) (now (words .entry))) (entered (board .rows) (now (words .entry))) (costed table cost) .change)
         × (r .at < rowsMax)
@@ -47,38 +61,26 @@ fn admit_table(words: &mut [u64], table: TaskTable, board: Board, cost: u64) -> 
 {
     let id = table.id;
     let n = table.count;
-    let found = boards::placed(board, id_only(id));
-    let later = found.answer;
-    let planning = plans::plan_table(words, table, cost, later);
+    let free = boards::place_of(board, 0);
+    let place = boards::told_place(boards::place_of(board, id), free);
+    let planning = plans::plan_table(words, table, cost, place);
     let answer = planning.answer;
     if answer.refusal != 0 {
         return boards::unchanged(board, answer);
     }
-    let from = answer.value as usize - 3 * n;
-    let nodes = &words[from..];
-    let figures = shares::figures_of(nodes, n);
-    let shortest = shares::shortest_of(nodes, n);
-    let over = words[0];
+    let row = row_of(words, id, n, planning);
     Change {
-        at: found.at,
-        row: Row {
-            id,
-            nodes: n as u64,
-            sum: figures.sum,
-            largest: figures.largest,
-            longest: planning.longest,
-            shortest,
-            over,
-        },
-        answer: later,
+        at: free,
+        row,
+        answer: place,
     }
 }
 
-// Admits the task of a record, each step with the cost: 26, 16, 17, the reader's refusals, and then its table.
-pub fn admission(bytes: &[u8], words: &mut [u64], board: Board, cost: u64) -> Change
-    ensures { λ r. ⌜ (r ≡ admission (now (bytes .entry)) (now (words .entry)) (board .rows) cost .change)
+// Notes the task of a record, each step with the cost: 26, 16, 17, the reader's refusals, and then its table.
+pub fn noting(bytes: &[u8], words: &mut [u64], board: Board, cost: u64) -> Change
+    ensures { λ r. ⌜ (r ≡ noting (now (bytes .entry)) (now (words .entry)) (board .rows) cost .change)
         × (r .at < rowsMax)
-        × (now (words .exit) ≡ admission (now (bytes .entry)) (now (words .entry)) (board .rows) cost .words) ⌝ }
+        × (now (words .exit) ≡ noting (now (bytes .entry)) (now (words .entry)) (board .rows) cost .words) ⌝ }
 {
     let first = plans::before_reading(words.len(), cost);
     let Outcome::Accepted = first else {
@@ -93,5 +95,5 @@ pub fn admission(bytes: &[u8], words: &mut [u64], board: Board, cost: u64) -> Ch
     let Outcome::Accepted = outcome else {
         return boards::unchanged(board, refusals::answer_of(outcome));
     };
-    admit_table(words, reading.table, board, cost)
+    note_table(words, reading.table, board, cost)
 }

@@ -1,6 +1,7 @@
 pub mod Tests
 pub mod Find
 pub mod Sound
+pub mod Fitting
 pub mod Halves
 pub mod Cases
 pub mod Keeping

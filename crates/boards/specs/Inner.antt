@@ -1,1 +1,3 @@
 pub mod Halves
+pub mod Load
+pub mod Place

@@ -18,7 +18,8 @@ ghost use Rattle.refusals.specs.Numbers.{unsoundBoard};
 ghost use Rattle.refusals.specs.Refusal.{refusal};
 ghost use Rattle.refusals.specs.Answer.{accepted, refused};
 ghost use Rattle.boards.specs.Row.{rowsMax};
-ghost use Rattle.boards.specs.Change.{unchanged, placed, withdrawn, beforeAsking, asked};
+ghost use Rattle.boards.specs.Change.{unchanged, withdrawn, beforeAsking, asked};
+ghost use Rattle.boards.specs.Inner.Place.{toldPlace};
 
 // Limit of specs/: the most cores.
 const CORES_MAX: u64 = 64;
@@ -59,24 +60,17 @@ pub fn unsound() -> Answer
     refused_by(Refusal::UNSOUND_BOARD)
 }
 
-// The row goes to the lowest free row.
-pub fn placed(board: Board, row: Row) -> Change
-    ensures { λ r. ⌜ (r ≡ placed (board .rows) row) × (r .at < rowsMax) ⌝ }
+// Where a task may go, as an answer, by the place at which its id stands and the lowest free one: 12, 13, else the latter.
+pub fn told_place(standing: usize, free: usize) -> Answer
+    ensures { λ r. ⌜ r ≡ toldPlace standing free ⌝ }
 {
-    let standing = place_of(board, row.id);
     if standing < ROWS {
-        return unchanged(board, refused_by(Refusal::ID_STANDS));
+        return refused_by(Refusal::ID_STANDS);
     }
-    let at = place_of(board, 0);
-    if at < ROWS {
-        Change {
-            at,
-            row,
-            answer: Answer::accepted(at as u64),
-        }
-    } else {
-        unchanged(board, refused_by(Refusal::BOARD_FULL))
+    if free < ROWS {
+        return Answer::accepted(free as u64);
     }
+    refused_by(Refusal::BOARD_FULL)
 }
 
 // The row with this id becomes free.

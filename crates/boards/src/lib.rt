@@ -5,18 +5,22 @@ ghost use lib.ListN.{replicate};
 ghost use Rattle.boards.specs.Row.{freeRow, rowsMax};
 
 mod changes;
+mod loads;
 mod places;
 mod soundness;
 mod verdicts;
 
 pub use changes::asked;
 pub use changes::before_asking;
-pub use changes::placed;
 pub use changes::told;
+pub use changes::told_place;
 pub use changes::unchanged;
 pub use changes::unsound;
 pub use changes::with_row;
 pub use changes::withdrawn;
+pub use loads::Load;
+pub use loads::load_of;
+pub use places::place_of;
 pub use soundness::densities_sound;
 pub use soundness::times_sound;
 pub use verdicts::Peaks;

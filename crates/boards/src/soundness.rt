@@ -97,7 +97,7 @@ fn densities_fit(row: Row) -> bool
 }
 
 // Whether it has no times where there is no task, and else times in their ranges.
-fn times_fit(row: Row) -> bool
+pub fn times_fit(row: Row) -> bool
     ensures { λ r. ⌜ r ≡ timesFit row ⌝ }
 {
     if row.id == 0 {

@@ -29,7 +29,7 @@ use Rattle.plans.specs.Words.{wordsMax}
 use Rattle.plans.specs.Calls.{beforeReading, onTable, onTask, unplanned, planned, planCall}
 use Rattle.plans.proofs.Table.{plans-accepted, cutting}
 use Rattle.boards.specs.declared.Row.{Row}
-use Rattle.admissions.specs.Admission.{notAdmitted, entered, admission}
+use Rattle.admissions.specs.Admission.{notAdmitted, entered, noting}
 use Rattle.claims.specs.Cost.{runners, onRecord, oldPlan, oldAdmission, Limited, OfCost}
 
 -- who runs pays once, and who doesn't pays nothing
@@ -67,9 +67,9 @@ free-plan : (bytes words : List ℕ) → planCall bytes words 0 ≡ oldPlan byte
 unfolding planCall
 free-plan bytes words = free-first (unplanned words) _ (length words) ∙ rw (free-task (unplanned words) (planned words) bytes)
 
-free-admission : (bytes words : List ℕ) (rows : List Row) → admission bytes words rows 0 ≡ oldAdmission bytes words rows
-unfolding admission
-free-admission bytes words rows = free-first (notAdmitted rows words) _ (length words) ∙ rw (free-task (notAdmitted rows words) (entered rows words) bytes)
+free-noting : (bytes words : List ℕ) (rows : List Row) → noting bytes words rows 0 ≡ oldAdmission bytes words rows
+unfolding noting
+free-noting bytes words rows = free-first (notAdmitted rows words) _ (length words) ∙ rw (free-task (notAdmitted rows words) (entered rows words) bytes)
 
 -- the limits: no execution is above `runMax`, and the work and Q follow
 limits : (t : TaskTable) → Accepted-table t → Limited t
@@ -87,6 +87,6 @@ of-cost = record {
   once = once;
   free-table = costed-0;
   free-plan = free-plan;
-  free-admission = free-admission;
+  free-noting = free-noting;
   limits = limits;
 }

@@ -4,9 +4,10 @@ mod Exact
 pub mod Record
 pub mod Plan
 mod Board
-pub mod Admit
+pub mod Note
 pub mod Withdraw
 pub mod Ask
+pub mod Admit
 pub mod Print
 pub mod Diagram
 pub mod Cost
@@ -16,5 +17,6 @@ mod Verdict
 pub mod Day
 mod Within
 pub mod Sales
+pub mod Guarded
 pub mod Starred
 pub mod Promises

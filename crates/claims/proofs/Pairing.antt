@@ -12,6 +12,7 @@ use lib.ListN.{set, getD-replicate}
 use borrow.Author.Tests.{eqb-true, eqb-false}
 use Rattle.plain.specs.Pick.{pick}
 use Rattle.plain.specs.Sums.{sumTo}
+use Rattle.plain.proofs.Sums.{sum-changed}
 use Rattle.tables.specs.declared.TaskTable.{TaskTable}
 use Rattle.tables.proofs.Cost.{plannable}
 use Rattle.plans.specs.Accepted.{Accepted}
@@ -25,16 +26,18 @@ use Rattle.boards.specs.Change.{changed, withdrawn}
 use Rattle.boards.proofs.Sound.{empty-sound}
 use Rattle.boards.proofs.Find.{place-before}
 use Rattle.boards.proofs.Keeping.{withdrawn-refused, withdrawn-sound, place-stands, place-free, one-row, row-written, others-kept}
-use Rattle.admissions.specs.Admission.{Admission, rowOf, admission}
-use Rattle.admissions.proofs.Keeping.{admission-sound}
-use Rattle.planner.specs.Calls.{Lent, admitCall, withdrawCall}
-use Rattle.claims.specs.Calls.{Call, State, without, emptyDay, afterCall, afterCalls}
-use Rattle.claims.specs.Calls.Call.{admit, withdraw, ask, askToEnd}
+use Rattle.admissions.specs.Admission.{Admission, rowOf, noting}
+use Rattle.guards.specs.Guarded.{admission}
+use Rattle.planner.specs.Calls.{Lent, withdrawCall}
+use Rattle.claims.specs.Rule.{IsAccepted, IsRefused}
+use Rattle.claims.specs.Calls.{Call, State, without, ifAccepted, emptyDay, afterCall, afterCalls}
+use Rattle.claims.specs.Calls.Call.{note, admit, withdraw, ask, askToEnd}
 use Rattle.claims.specs.Day.{Among, RowIs, NoIdTwice}
 use Rattle.claims.specs.Day.NoIdTwice.{none, more}
+use Rattle.claims.proofs.Note.{Joins, note-accepted, note-untouched}
 use Rattle.claims.proofs.Admit.{admit-accepted, admit-untouched}
 use Rattle.claims.proofs.Withdraw.{Withdrew, withdraw-accepted}
-use Rattle.claims.proofs.Standing.{sumsOf, without-among, among-without, without-apart, sums-without, sum-changed}
+use Rattle.claims.proofs.Standing.{sumsOf, without-among, among-without, without-apart, sums-without}
 
 -- a figure of each row
 abbrev pub figure : (Row → ℕ) → List Row → ℕ → ℕ
@@ -181,19 +184,23 @@ module _ {s : State} (p : Paired s) (id : ℕ) (w : Withdrew (s .rows) id (withd
         omega arith;
   }
 
+-- a record's task, noted or admitted: it joins, or nothing has changed
+paired-entry : (bytes words : List ℕ) (cost : ℕ) {s : State} → Paired s → (x : Admission) → (IsAccepted (x .change .answer) → Joins bytes words (s .rows) cost x) → (IsRefused (x .change .answer) → changed (s .rows) (x .change) ≡ s .rows)
+    → Paired (record { rows = changed (s .rows) (x .change); standing = ifAccepted (x .change .answer) (taskOf bytes cost ∷ s .standing) (s .standing); admitted = ifAccepted (x .change .answer) (taskOf bytes cost ∷ s .admitted) (s .admitted) })
+paired-entry bytes words cost {s} p x joins stays = go (eqb (x .change .answer .refusal) 0) refl
+  where
+    go : (b : Bool) → eqb (x .change .answer .refusal) 0 ≡ b
+        → Paired (record { rows = changed (s .rows) (x .change); standing = pick b (taskOf bytes cost ∷ s .standing) (s .standing); admitted = pick b (taskOf bytes cost ∷ s .admitted) (s .admitted) })
+    go true e =
+        let a = joins (eqb-true _ 0 e) in
+        rw (ap (λ (y : Admission). changed (s .rows) (y .change)) (a .is)) (paired-joined p (taskOf bytes cost) (a .table) (a .new) (a .free) (a .fine))
+    go false e = rw (stays (eqb-false _ 0 e)) p
+
 -- every call keeps the pairing
 pub paired-call : (call : Call) {s : State} → Paired s → Paired (afterCall call s)
 unfolding afterCall
-paired-call (admit bytes words cost) {s} p = go (eqb (admission bytes words (s .rows) cost .change .answer .refusal) 0) refl
-  where
-    go : (b : Bool) → eqb (admission bytes words (s .rows) cost .change .answer .refusal) 0 ≡ b
-        → Paired (record { rows = admitCall bytes words (s .rows) cost .lent .rows; standing = pick b (taskOf bytes cost ∷ s .standing) (s .standing); admitted = pick b (taskOf bytes cost ∷ s .admitted) (s .admitted) })
-    go true e =
-        let a = admit-accepted bytes words (s .rows) cost (eqb-true _ 0 e) in
-        let written = ap (λ (x : Admission). changed (s .rows) (x .change)) (a .is) in
-        let fine = admission-sound bytes words (s .rows) cost (p .sound) in
-        rw written (paired-joined p (taskOf bytes cost) (a .table) (a .new) (a .free) (rw (a .is) at fine))
-    go false e = rw (ap (λ (l : Lent). l .rows) (admit-untouched bytes words (s .rows) cost (eqb-false _ 0 e))) p
+paired-call (note bytes words cost) {s} p = paired-entry bytes words cost p (noting bytes words (s .rows) cost) (note-accepted bytes words (s .rows) cost) (λ n. ap (λ (l : Lent). l .rows) (note-untouched bytes words (s .rows) cost n))
+paired-call (admit bytes words cores cost) {s} p = paired-entry bytes words cost p (admission bytes words (s .rows) cores cost) (admit-accepted bytes words (s .rows) cores cost) (λ n. ap (λ (l : Lent). l .rows) (admit-untouched bytes words (s .rows) cores cost n))
 paired-call (withdraw id) {s} p = go (eqb (withdrawn (s .rows) id .answer .refusal) 0) refl
   where
     go : (b : Bool) → eqb (withdrawn (s .rows) id .answer .refusal) 0 ≡ b

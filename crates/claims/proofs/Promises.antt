@@ -2,6 +2,7 @@
 use Rattle.claims.specs.Promises.{Promises}
 use Rattle.claims.proofs.Record.{reading}
 use Rattle.claims.proofs.Plan.{of-planning}
+use Rattle.claims.proofs.Note.{of-noting}
 use Rattle.claims.proofs.Admit.{of-admitting}
 use Rattle.claims.proofs.Withdraw.{of-withdrawing}
 use Rattle.claims.proofs.Ask.{of-asking, of-asking-to-end}
@@ -10,6 +11,7 @@ use Rattle.claims.proofs.Diagram.{tables-timed}
 use Rattle.claims.proofs.Cost.{of-cost}
 use Rattle.claims.proofs.Day.{day}
 use Rattle.claims.proofs.Sales.{of-sales}
+use Rattle.claims.proofs.Guarded.{of-guarding}
 use Rattle.claims.proofs.Starred.{all-come}
 
 -- they hold
@@ -17,6 +19,7 @@ pub promises : Promises
 promises = record {
   reading = reading;
   planning = of-planning;
+  noting = of-noting;
   admitting = of-admitting;
   withdrawing = of-withdrawing;
   asking = of-asking;
@@ -26,5 +29,6 @@ promises = record {
   cost = of-cost;
   day = day;
   sales = of-sales;
+  guarding = of-guarding;
   starred = all-come;
 }

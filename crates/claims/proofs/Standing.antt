@@ -2,13 +2,11 @@
 use mathlib.Core.Path.{_≡_, refl, sym, ap, _∙_}
 use mathlib.Core.Logic.{⊎-elim}
 use mathlib.Core.List.{List, [], _∷_, List·Memᴰ·head, List·Memᴰ·tail, List·Memᴰ·cases-cons, List·Memᴰ·not-nil}
-use Prim.Native.Nat.{ℕ, zero, suc, _+_, _≤_, _<_, max, zero-le}
-use native.Mathlib.Nat.{not-suc-le-zero, le-of-suc-le-suc, eq-or-lt-of-le, max-le, le-max-left, le-max-right, le-trans}
+use Prim.Native.Nat.{ℕ, _+_, _≤_, max, zero-le}
+use native.Mathlib.Nat.{max-le, le-max-left, le-max-right, le-trans}
 use native.Mathlib.Omega.{arith}
 use lib.Dec.{eqb}
 use borrow.Author.Tests.{eqb-true, eqb-false, eq-eqb, ne-eqb}
-use Rattle.plain.specs.Sums.{sumTo}
-use Rattle.plain.proofs.Sums.{sum-same}
 use Rattle.tables.specs.declared.TaskTable.{TaskTable}
 use Rattle.boards.specs.declared.Row.{Row}
 use Rattle.plain.proofs.Picks.{pick-case}
@@ -86,12 +84,3 @@ module _ (id : ℕ) where
       let other : t .id ≡ id → ⊥ = λ d. new u n (e ∙ sym d) in
       rw (ne-eqb (t .id) id other) (let ih = sums-without f ts a u n e in omega arith))
       (List·Memᴰ·cases-cons m)
-
--- two lists of numbers that differ in one place differ in their sum by that
-pub sum-changed : (n : ℕ) (f g : ℕ → ℕ) (x : ℕ) → x < n → ((k : ℕ) → (k ≡ x → ⊥) → f k ≡ g k) → sumTo n f + g x ≡ sumTo n g + f x
-unfolding sumTo
-sum-changed zero f g x h e = absurd (not-suc-le-zero h)
-sum-changed (suc n) f g x h e = ⊎-elim
-    (λ (q : x ≡ n). let s = sum-same n f g (λ k l. e k (λ p. omega arith)) in rw q (omega arith))
-    (λ (l : x < n). let ih = sum-changed n f g x l e in let last = e n (λ p. omega arith) in omega arith)
-    (eq-or-lt-of-le (le-of-suc-le-suc h))

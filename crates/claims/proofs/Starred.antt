@@ -35,7 +35,7 @@ use Rattle.boards.specs.Find.{placeOf}
 use Rattle.boards.specs.Sound.{isSoundRow, allTo, isNew, isSound}
 use Rattle.boards.specs.Verdict.{sumOf, largestOf}
 use Rattle.boards.specs.Change.{placed, beforeAsking, askedBy}
-use Rattle.admissions.specs.Admission.{entered, admission}
+use Rattle.admissions.specs.Admission.{entered, noting}
 use Rattle.texts.specs.Decimal.{digits, decimal}
 use Rattle.texts.specs.Lines.{field, line}
 use Rattle.sheets.specs.Lines.{linesTo}
@@ -46,6 +46,6 @@ use Rattle.claims.specs.Starred.AllCome.{done, _also_}
 
 -- every line of the list
 pub all-come : Starred
-unfolding starred kindsTo afterCall afterCalls sheetText linesTo line field decimal digits admission entered placed askedBy beforeAsking isSound isSoundRow isNew allTo sumOf largestOf placeOf planCall beforeReading onTask onTable frontWords nodeWords numeratorOf deadline shortest offset density share deal numerator millionths smaller smallestTo triples isHeavy heavies heavyWork lightLength segments lengthOf cut next nextTo running runningIn runs threads begins ends endsAfter workOf longestOf pathOf loops some reach stages stage union inside smallest unlessNeeded ringAfter withoutMember readingOf nodes nothingFollows allZero parentSet parents andThen ranged whole number before tab greatest setOf sizeTo bit sumTo maxTo upTo
+unfolding starred kindsTo afterCall afterCalls sheetText linesTo line field decimal digits noting entered placed askedBy beforeAsking isSound isSoundRow isNew allTo sumOf largestOf placeOf planCall beforeReading onTask onTable frontWords nodeWords numeratorOf deadline shortest offset density share deal numerator millionths smaller smallestTo triples isHeavy heavies heavyWork lightLength segments lengthOf cut next nextTo running runningIn runs threads begins ends endsAfter workOf longestOf pathOf loops some reach stages stage union inside smallest unlessNeeded ringAfter withoutMember readingOf nodes nothingFollows allZero parentSet parents andThen ranged whole number before tab greatest setOf sizeTo bit sumTo maxTo upTo
 all-come =
     refl also refl also refl also refl also refl also refl also refl also refl also refl also refl also refl also refl also refl also refl also refl also refl also refl also refl also refl also refl also refl also refl also refl also refl also refl also refl also done

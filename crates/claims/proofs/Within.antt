@@ -12,7 +12,7 @@ use borrow.Author.Tests.{eq-eqb, ne-eqb}
 use Rattle.plain.specs.Pick.{pick}
 use Rattle.plain.specs.Sums.{sumTo, maxTo}
 use Rattle.plain.proofs.Lists.{lt-or-ge}
-use Rattle.plain.proofs.Sums.{maxTo-le, le-maxTo}
+use Rattle.plain.proofs.Sums.{sum-changed, maxTo-le, le-maxTo}
 use Rattle.tables.specs.declared.TaskTable.{TaskTable}
 use Rattle.tables.specs.Limits.{million}
 use Rattle.shares.proofs.Densities.{undivided, enough, least}
@@ -30,7 +30,6 @@ use Rattle.claims.specs.Rule.{IsAccepted}
 use Rattle.claims.specs.Calls.{State}
 use Rattle.claims.specs.Day.{Among, RowIs}
 use Rattle.claims.proofs.Withdraw.{withdraw-accepted}
-use Rattle.claims.proofs.Standing.{sum-changed}
 use Rattle.claims.proofs.Pairing.{figure, Paired}
 
 -- some row of the N is this one

@@ -9,25 +9,28 @@ use Rattle.tables.specs.declared.TaskTable.{TaskTable}
 use Rattle.boards.specs.declared.Row.{Row}
 use Rattle.boards.specs.Row.{freeRow}
 use Rattle.plans.specs.Calls.{taskOf}
-use Rattle.planner.specs.Calls.{admitCall, withdrawCall, askCall, askToEndCall}
+use Rattle.planner.specs.Calls.{noteCall, admitCall, withdrawCall, askCall, askToEndCall}
 
 -- a call, with what it is lent and told beside the board
 pub data Call : Type 0 where
-  admit : (bytes words : List ℕ) (cost : ℕ) → Call
+  note : (bytes words : List ℕ) (cost : ℕ) → Call
+  admit : (bytes words : List ℕ) (cores cost : ℕ) → Call
   withdraw : (id : ℕ) → Call
   ask : (cores : ℕ) → Call
   askToEnd : (cores : ℕ) → Call
 
 -- what a call answers, by its own definition; any words may be lent
 abbrev pub answerTo : Call → List Row → Answer
-answerTo (admit bytes words cost) rows = admitCall bytes words rows cost .answer
+answerTo (note bytes words cost) rows = noteCall bytes words rows cost .answer
+answerTo (admit bytes words cores cost) rows = admitCall bytes words rows cores cost .answer
 answerTo (withdraw id) rows = withdrawCall rows id .answer
 answerTo (ask cores) rows = askCall rows cores .answer
 answerTo (askToEnd cores) rows = askToEndCall rows cores .answer
 
 -- the rows that it leaves
 abbrev pub rowsAfter : Call → List Row → List Row
-rowsAfter (admit bytes words cost) rows = admitCall bytes words rows cost .lent .rows
+rowsAfter (note bytes words cost) rows = noteCall bytes words rows cost .lent .rows
+rowsAfter (admit bytes words cores cost) rows = admitCall bytes words rows cores cost .lent .rows
 rowsAfter (withdraw id) rows = withdrawCall rows id .lent
 rowsAfter (ask cores) rows = askCall rows cores .lent
 rowsAfter (askToEnd cores) rows = askToEndCall rows cores .lent
@@ -41,22 +44,24 @@ without id (t ∷ ts) = pick (eqb (t .id) id) (without id ts) (t ∷ without id 
 abbrev pub ifAccepted : Answer → (after before : List TaskTable) → List TaskTable
 ifAccepted answer after before = pick (eqb (answer .refusal) 0) after before
 
--- the tables standing after a call: an accepted admission adds its record's table, "with the cost it came in with", an accepted withdrawal takes
+-- the tables standing after a call: an accepted noting or admission adds its record's table, "with the cost it came in with", an accepted withdrawal takes
 -- off the one with its id
 abbrev pub nextStanding : Call → Answer → List TaskTable → List TaskTable
-nextStanding (admit bytes words cost) answer ts = ifAccepted answer (taskOf bytes cost ∷ ts) ts
+nextStanding (note bytes words cost) answer ts = ifAccepted answer (taskOf bytes cost ∷ ts) ts
+nextStanding (admit bytes words cores cost) answer ts = ifAccepted answer (taskOf bytes cost ∷ ts) ts
 nextStanding (withdraw id) answer ts = ifAccepted answer (without id ts) ts
 nextStanding (ask cores) answer ts = ts
 nextStanding (askToEnd cores) answer ts = ts
 
--- the tables ever admitted, after a call
+-- the tables ever noted or admitted, after a call
 abbrev pub nextAdmitted : Call → Answer → List TaskTable → List TaskTable
-nextAdmitted (admit bytes words cost) answer ts = ifAccepted answer (taskOf bytes cost ∷ ts) ts
+nextAdmitted (note bytes words cost) answer ts = ifAccepted answer (taskOf bytes cost ∷ ts) ts
+nextAdmitted (admit bytes words cores cost) answer ts = ifAccepted answer (taskOf bytes cost ∷ ts) ts
 nextAdmitted (withdraw id) answer ts = ts
 nextAdmitted (ask cores) answer ts = ts
 nextAdmitted (askToEnd cores) answer ts = ts
 
--- how things stand: the board, the tables standing on it, and all tables admitted so far
+-- how things stand: the board, the tables standing on it, and all tables that came in so far
 pub record State : Type 0 where
   pub rows : List Row
   pub standing : List TaskTable
@@ -85,6 +90,6 @@ boardAfter calls = afterCalls calls emptyDay .rows
 abbrev pub standingAfter : List Call → List TaskTable
 standingAfter calls = afterCalls calls emptyDay .standing
 
--- the tables that were admitted on the way
+-- the tables that came in on the way
 abbrev pub admittedAfter : List Call → List TaskTable
 admittedAfter calls = afterCalls calls emptyDay .admitted

@@ -19,7 +19,7 @@ use Rattle.plans.specs.Shares.{over}
 use Rattle.plans.specs.Calls.{onTable, unplanned, planned, planCall}
 use Rattle.boards.specs.declared.Row.{Row}
 use Rattle.boards.specs.Sound.{isSound}
-use Rattle.admissions.specs.Admission.{Admission, notAdmitted, entered, admission}
+use Rattle.admissions.specs.Admission.{Admission, notAdmitted, entered, noting}
 
 -- how many nodes of a table run
 abbrev pub runners : TaskTable → ℕ
@@ -33,7 +33,7 @@ onRecord refuse go bytes = onOutcome refuse (onTable refuse go (readingOf bytes 
 abbrev pub oldPlan : (bytes words : List ℕ) → After (List ℕ)
 oldPlan bytes words = pick (ltb (length words) 387) (unplanned words (refusal 16 0)) (onRecord (unplanned words) (planned words) bytes)
 
--- admitting as document 01 has it: "Admitting checks 16, 17," those, "12, 13"
+-- admitting as document 01 has it, which is noting now: "Admitting checks 16, 17," those, "12, 13"
 abbrev pub oldAdmission : (bytes words : List ℕ) (rows : List Row) → Admission
 oldAdmission bytes words rows =
     pick (ltb (length words) 387) (notAdmitted rows words (refusal 16 0))
@@ -57,9 +57,9 @@ pub record OfCost : Type 0 where
   pub joins : (t : TaskTable) (cost v : ℕ) → at (t .execution) v ≡ 0 → at (costed t cost .execution) v ≡ 0
   -- it is paid once by each node that runs, however many parents that has
   pub once : (t : TaskTable) (cost : ℕ) → work (costed t cost) ≡ work t + runners t * cost
-  -- "With cost 0 all old answers stand": the table is the one that was read, and each call that takes a cost comes to what it came to
+  -- "With cost 0 all old answers stand": the table is the one that was read, and planning and noting come to what they came to
   pub free-table : (t : TaskTable) → costed t 0 ≡ t
   pub free-plan : (bytes words : List ℕ) → planCall bytes words 0 ≡ oldPlan bytes words
-  pub free-admission : (bytes words : List ℕ) (rows : List Row) → admission bytes words rows 0 ≡ oldAdmission bytes words rows
+  pub free-noting : (bytes words : List ℕ) (rows : List Row) → noting bytes words rows 0 ≡ oldAdmission bytes words rows
   -- the limits that the request names, of every task that is accepted
   pub limits : (t : TaskTable) → Accepted t → Limited t

@@ -74,7 +74,7 @@ Roomy m xs = AtMost (times 1000000 (exactLeft m xs)) (whole (m * 1000000 - (leng
 abbrev pub RoomyToEnd : ℕ → List Fraction → Fraction → Type 0
 RoomyToEnd m xs r = AtMost (times 1000000 (exactLeftToEnd m xs r)) (whole (m * 1000000 - (length xs + m - 1 + m)))
 
--- the sentences of demand 3 about a board, the tables that stand on it and all tables that were admitted on the way
+-- the sentences of demand 3 about a board, the tables that stand on it and all tables that came in on the way
 pub record DayHolds (rows : List Row) (standing admitted : List TaskTable) : Type 0 where
   -- the board is sound
   pub sound : Sound rows

@@ -1,6 +1,7 @@
 -- All that we promise, in one record: a reader who trusts nothing else reads this crate's specs/ and the definitions that they name.
 use Rattle.claims.specs.Record.{OfReading}
 use Rattle.claims.specs.Plan.{OfPlanning}
+use Rattle.claims.specs.Note.{OfNoting}
 use Rattle.claims.specs.Admit.{OfAdmitting}
 use Rattle.claims.specs.Withdraw.{OfWithdrawing}
 use Rattle.claims.specs.Ask.{OfAsking}
@@ -10,6 +11,7 @@ use Rattle.claims.specs.Diagram.{TablesTimed}
 use Rattle.claims.specs.Cost.{OfCost}
 use Rattle.claims.specs.Day.{Day}
 use Rattle.claims.specs.Sales.{OfSales}
+use Rattle.claims.specs.Guarded.{OfGuarding}
 use Rattle.claims.specs.Starred.{Starred}
 
 -- the promises
@@ -17,6 +19,7 @@ pub record Promises : Type 0 where
   -- demands 1 and 2, call by call, and what demand 3 says of every accepted plan
   pub reading : OfReading
   pub planning : OfPlanning
+  pub noting : OfNoting
   pub admitting : OfAdmitting
   pub withdrawing : OfWithdrawing
   pub asking : OfAsking
@@ -30,5 +33,7 @@ pub record Promises : Type 0 where
   pub day : Day
   -- what the sales sheet says of the verdicts
   pub sales : OfSales
+  -- where tasks are admitted for one number of cores alone, the verdict stays a yes
+  pub guarding : OfGuarding
   -- the starred tables
   pub starred : Starred

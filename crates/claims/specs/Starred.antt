@@ -17,7 +17,7 @@ use Rattle.boards.specs.Row.{rowAt}
 use Rattle.texts.specs.Text.{bytes as text}
 use Rattle.sheets.specs.Printed.{sheetOf}
 use Rattle.claims.specs.Calls.{Call, answerTo, boardAfter}
-use Rattle.claims.specs.Calls.Call.{admit, ask}
+use Rattle.claims.specs.Calls.Call.{note, ask}
 
 -- "A segment is heavy when .., otherwise light"
 pub data Kind : Type 0 where
@@ -41,7 +41,7 @@ pub data Entry : Type 0 where
   refuses : (bytes : List ℕ) (number place : ℕ) → Entry
   -- planning refuses the record by 10, with this node and this set of nodes
   goes-round : (bytes : List ℕ) (node ring : ℕ) → Entry
-  -- admitted on the empty board, the record's task has this row
+  -- noted on the empty board, the record's task has this row
   fills : (bytes : List ℕ) (row : Row) → Entry
   -- after these calls, asking for so many cores gets this answer
   answers : (calls : List Call) (cores : ℕ) (answer : Answer) → Entry
@@ -54,9 +54,9 @@ noCost = 0
 abbrev pub blank : List ℕ
 blank = replicate wordsMax 0
 
--- a record is admitted
-abbrev pub admitting : List ℕ → Call
-admitting bytes = admit bytes blank noCost
+-- a record is noted
+abbrev pub noting : List ℕ → Call
+noting bytes = note bytes blank noCost
 
 -- it comes out so: a plan's answer is the number of its words, and the words past them are as they were; a refusal writes nothing
 abbrev pub Comes : Entry → Type 0
@@ -65,7 +65,7 @@ Comes (cuts bytes kinds) = kindsTo (segmentCount (taskOf bytes noCost)) (taskOf 
 Comes (prints bytes text) = sheetOf bytes ≡ text
 Comes (refuses bytes number place) = planCall bytes blank noCost ≡ record { answer = refused (refusal number place); lent = blank }
 Comes (goes-round bytes node ring) = planCall bytes blank noCost ≡ record { answer = refused (looped node ring); lent = blank }
-Comes (fills bytes row) = rowAt (boardAfter (admitting bytes ∷ [])) 0 ≡ row
+Comes (fills bytes row) = rowAt (boardAfter (noting bytes ∷ [])) 0 ≡ row
 Comes (answers calls cores answer) = answerTo (ask cores) (boardAfter calls) ≡ answer
 
 -- one node of 5 in a period of 5: light
@@ -115,20 +115,20 @@ starred =
     plans oneNode (5 ∷ 1 ∷ 1 ∷ 1 ∷ 5 ∷ 25 ∷ 0 ∷ 25 ∷ 1000000 ∷ [])
     ∷ cuts oneNode (light ∷ [])
     ∷ fills oneNode (record { id = 7; nodes = 1; sum = 1000000; largest = 1000000; longest = 5; shortest = 25; over = 5 })
-    ∷ answers (admitting oneNode ∷ []) 1 (accepted 1)
+    ∷ answers (noting oneNode ∷ []) 1 (accepted 1)
     ∷ refuses shortPeriod 11 0
     ∷ plans chain (3 ∷ 3 ∷ 3 ∷ 1 ∷ 1 ∷ 3 ∷ 1 ∷ 1 ∷ 3 ∷ 1 ∷ 1 ∷ 3 ∷ 0 ∷ 3 ∷ 1000000 ∷ 3 ∷ 3 ∷ 1000000 ∷ 6 ∷ 3 ∷ 1000000 ∷ [])
     ∷ cuts chain (light ∷ light ∷ light ∷ [])
     ∷ fills chain (record { id = 8; nodes = 3; sum = 3000000; largest = 1000000; longest = 1; shortest = 3; over = 3 })
-    ∷ answers (admitting chain ∷ []) 1 (accepted 0)
-    ∷ answers (admitting chain ∷ []) 3 (accepted 0)
+    ∷ answers (noting chain ∷ []) 1 (accepted 0)
+    ∷ answers (noting chain ∷ []) 3 (accepted 0)
     ∷ plans fourNodes (6 ∷ 2 ∷ 4 ∷ 1 ∷ 2 ∷ 6 ∷ 3 ∷ 1 ∷ 18 ∷ 0 ∷ 6 ∷ 2000000 ∷ 6 ∷ 18 ∷ 333334 ∷ 6 ∷ 18 ∷ 333334 ∷ 6 ∷ 18 ∷ 333334 ∷ [])
     ∷ cuts fourNodes (light ∷ heavy ∷ [])
     ∷ plans listing (5 ∷ 3 ∷ 3 ∷ 2 ∷ 1 ∷ 12 ∷ 2 ∷ 1 ∷ 12 ∷ 1 ∷ 1 ∷ 6 ∷ 0 ∷ 30 ∷ 500000 ∷ 0 ∷ 12 ∷ 416667 ∷ 12 ∷ 12 ∷ 416667 ∷ [])
     ∷ prints listing listingText
     ∷ fills listing (record { id = 3; nodes = 3; sum = 1333334; largest = 500000; longest = 3; shortest = 12; over = 5 })
-    ∷ answers (admitting listing ∷ []) 2 (accepted 1)
-    ∷ answers (admitting listing ∷ []) 1 (accepted 0)
+    ∷ answers (noting listing ∷ []) 2 (accepted 1)
+    ∷ answers (noting listing ∷ []) 1 (accepted 0)
     ∷ goes-round ownParent 0 0b1
     ∷ goes-round eachOther 0 0b11
     ∷ refuses [] 1 0

@@ -109,3 +109,21 @@ maxTo-is (suc n) f = go (maxTo-is n f) (lt-or-ge (maxTo n f) (f n))
     go r (inl l) = inr (n, le-refl (suc n), omega arith)
     go (inl z) (inr l) = inl (omega arith)
     go (inr w) (inr l) = inr (w .0, (let h = w .1 in omega arith), (let e = w .2 in omega arith))
+
+-- two lists of numbers that differ in one place differ in their sum by that
+pub sum-changed : (n : ℕ) (f g : ℕ → ℕ) (x : ℕ) → x < n → ((k : ℕ) → (k ≡ x → ⊥) → f k ≡ g k) → sumTo n f + g x ≡ sumTo n g + f x
+unfolding sumTo
+sum-changed zero f g x h e = absurd (not-suc-le-zero h)
+sum-changed (suc n) f g x h e = ⊎-elim
+    (λ (q : x ≡ n). let s = sum-same n f g (λ k l. e k (λ p. omega arith)) in rw q (omega arith))
+    (λ (l : x < n). let ih = sum-changed n f g x l e in let last = e n (λ p. omega arith) in omega arith)
+    (eq-or-lt-of-le (le-of-suc-le-suc h))
+
+-- and where the one has 0 there, the greatest of the other is the greater of its greatest and what the other has
+pub max-changed : (n : ℕ) (f g : ℕ → ℕ) (x : ℕ) → x < n → ((k : ℕ) → (k ≡ x → ⊥) → f k ≡ g k) → g x ≡ 0 → maxTo n f ≡ max (maxTo n g) (f x)
+unfolding maxTo
+max-changed zero f g x h e z = absurd (not-suc-le-zero h)
+max-changed (suc n) f g x h e z = ⊎-elim
+    (λ (q : x ≡ n). let s = max-same n f g (λ k l. e k (λ p. omega arith)) in let none : g n ≡ 0 = rw q at z in rw q (omega arith))
+    (λ (l : x < n). let ih = max-changed n f g x l e z in let last = e n (λ p. omega arith) in omega arith)
+    (eq-or-lt-of-le (le-of-suc-le-suc h))

@@ -20,7 +20,6 @@ use prog.Wp.{Heap, Env, Calls, Loops, Wp, WpFn, Tables, afterSeq, atReturn}
 use ghost.Atoms.{Atoms}
 use contract.Monad.{Fun, fact}
 use types.Kit.{Given, Item, Sq, runs, anyQ, atRet, ‵, _⊛_, ⋆, _$_, _∵_, !, qed, by, move, keep, split, join, fsplit, fjoin, suffices, frame, done}
-use types.Part.{agg}
 use types.Run.{look, init, lit, of-opd, bin, and-then, no-more, first, skips, exec, returns, returns-within, enter, params1, pass1, pass0}
 use sound.WpLaws.{FmC, fmOf}
 use denote.RattleType.{owns}
@@ -52,11 +51,12 @@ use Rattle.boards.proofs.Change.Laws as Ch′
 use Rattle.boards.proofs.withdrawn as withdrawn-fn
 use Rattle.boards.proofs.unsound.Symbol.{name as #unsound}
 use Rattle.walks.proofs.Called.{calls-plain}
-use Rattle.walks.proofs.Locals.{values, function, param, temp, envOf, empties, passes, over, Blocks, allocates, letting, frees, entry, past, var, gets, keeps, member, elements}
+use Rattle.walks.proofs.Locals.{values, function, param, temp, envOf, empties, passes, over, Blocks, allocates, letting, frees, entry, past, var, gets, keeps, member}
 use Rattle.walks.proofs.Slices.{lending, same-or-not, gives-up}
 use Rattle.walks.proofs.Told.{Hands, handed, handed-fits, hands}
 use Rattle.walks.proofs.Walk.{meets}
 use Rattle.planner.proofs.Coded.{word, row, shared, again, refusing, tested, headed, measured}
+use Rattle.walks.proofs.Found.{lends-on}
 use Rattle.planner.proofs.NoBoard.{NoBoard, unsoundAnswer}
 use Rattle.planner.proofs.Rows.{RowsOf, Apply, Unsound, lends-rows, writes-row, refuses}
 use Rattle.planner.proofs.Values.{pairVals, pairArgs, board-typed, change-typed, answer-typed, board-makes, answer-makes}
@@ -148,8 +148,7 @@ module _ {M : Type 1} (𝓤 : URA M) (H : Heap 𝓤) (A : Atoms 𝓤) (W : Given
         -- there are 16 rows
         goes-on : length rows ≡ rowsMax → Sq W Tested (runs C Λ En (changing f o) (atRet En Post))
         goes-on sixteen =
-            gets ! (at 0 (the .read-from)) refl (elements ! (at 0 (the .board)) refl refl) (tt, tt) $
-            gets ! (at 0 (the .read)) refl (agg ! (and-then ! (var ! (at 0 (the .read-from)) refl) (and-then ! (member ! (at 0 (the .board)) 1 refl refl refl) (no-more !)))) (tt, (tt, (record { fits = room .0 }, tt))) $
+            lends-on ! (at 0 (the .board)) (at 0 (the .read-from)) (at 0 (the .read)) refl refl refl refl refl refl refl refl (room .0) $
             move ! (beyond 0 1 ∷ beyond 0 0 ∷ []) $ lends-rows W mem run x ! fm known-rows sixteen (λ i j. and-then ! (var ! (at 2 (the .read)) refl) (no-more !)) (λ v board board-is same.
             -- [what board owns; the token; the locals]
             keeps ! (at 2 (the .rows)) refl (board-typed W board board-is) $
@@ -157,8 +156,7 @@ module _ {M : Type 1} (𝓤 : URA M) (H : Heap 𝓤) (A : Atoms 𝓤) (W : Given
             (board-makes 𝓤 H A, (uint-makes 𝓤 H A W w64, tt)) (board-is, ((refl, handed-fits (place (the .number) []) o n told fits), tt)) tt (id⊢ 𝓤 _)
             (λ i. and-then ! (var ! (at 3 (the .rows)) refl) (and-then ! (hands ! told (var ! (at 3 (the .number)) refl)) (no-more !))) (λ c. (c ≡ rule (board .rows) (handed o n)) × (c .at < rowsMax)) (λ c e. id⊢ 𝓤 _) (λ u c c-is e.
             keeps ! (at 2 (the .change)) refl (change-typed W c c-is) $
-            gets ! (at 2 (the .write-to)) refl (elements ! (at 2 (the .board)) refl refl) (tt, tt) $
-            gets ! (at 2 (the .write)) refl (agg ! (and-then ! (var ! (at 2 (the .write-to)) refl) (and-then ! (member ! (at 2 (the .board)) 1 refl refl refl) (no-more !)))) (tt, (tt, (record { fits = room .0 }, tt))) $
+            lends-on ! (at 2 (the .board)) (at 2 (the .write-to)) (at 2 (the .write)) refl refl refl refl refl refl refl refl (room .0) $
             writes-row W mem run x ! fm known-apply c u c-is (subst (λ (m : ℕ). c .at < m) (sym sixteen) (e .1)) (λ i. and-then ! (var ! (at 1 (the .write)) refl) (and-then ! (var ! (at 1 (the .change)) refl) (no-more !))) (λ w is.
             -- [board's last list; the token; the locals]
             keeps ! (at 2 (the .answer)) refl (answer-typed W (c .answer) is) $

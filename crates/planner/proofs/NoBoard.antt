@@ -19,12 +19,13 @@ use Rattle.boards.specs.Verdict.{verdict}
 use Rattle.overheads.specs.ToEnd.{verdictToEnd}
 use Rattle.boards.specs.Change.{unchanged, changed, withdrawn, beforeAsking, askedBy}
 use Rattle.plans.specs.Calls.{beforeReading}
-use Rattle.admissions.specs.Admission.{Admission, admission}
+use Rattle.admissions.specs.Admission.{Admission, noting}
+use Rattle.guards.specs.Guarded.{admission}
 use Rattle.admissions.specs.Inner.NoBoard.{noBoard}
 use Rattle.boards.proofs.Keeping.{refusal-kept}
 use Rattle.refusals.specs.After.{After}
-use Rattle.planner.specs.Calls.{Lent}
-use Rattle.planner.specs.Allows.{AdmitAllows, WithdrawAllows, AskAllows, AskToEndAllows}
+use Rattle.planner.specs.Calls.{admitted}
+use Rattle.planner.specs.Allows.{NoteAllows, AdmitAllows, WithdrawAllows, AskAllows, AskToEndAllows}
 
 -- the board doesn't have 16 rows
 abbrev pub NoBoard : List Row → Type 0
@@ -56,9 +57,13 @@ asked-none : (says : List Row → ℕ → Bool) (rows : List Row) (cores : ℕ) 
 unfolding askedBy beforeAsking
 asked-none says rows cores none = simp (unsound rows none)
 
-admission-none : (bytes words : List ℕ) (rows : List Row) (cost : ℕ) → NoBoard rows → admission bytes words rows cost ≡ untouched words rows (noBoard (length words) cost)
-unfolding admission
-admission-none bytes words rows cost none = simp (unsound rows none) (through (untouched words rows) unsoundAnswer (beforeReading (length words) cost))
+noting-none : (bytes words : List ℕ) (rows : List Row) (cost : ℕ) → NoBoard rows → noting bytes words rows cost ≡ untouched words rows (noBoard (length words) cost)
+unfolding noting
+noting-none bytes words rows cost none = simp (unsound rows none) (through (untouched words rows) unsoundAnswer (beforeReading (length words) cost))
+
+admission-none : (bytes words : List ℕ) (rows : List Row) (cores cost : ℕ) → NoBoard rows → admission bytes words rows cores cost ≡ untouched words rows (noBoard (length words) cost)
+unfolding admission beforeAsking
+admission-none bytes words rows cores cost none = simp (unsound rows none) (through (untouched words rows) unsoundAnswer (beforeReading (length words) cost))
 
 -- and what the calls leave: the rows as they were, and the words
 abbrev after : {Lent : Type 0} → Answer → Lent → After Lent
@@ -74,9 +79,12 @@ ask-none rows cores none = sym (ap (λ (a : Answer). after a rows) (asked-none v
 pub ask-to-end-none : (rows : List Row) (cores : ℕ) → NoBoard rows → AskToEndAllows rows cores (after unsoundAnswer rows)
 ask-to-end-none rows cores none = sym (ap (λ (a : Answer). after a rows) (asked-none verdictToEnd rows cores none))
 
-pub admit-none : (bytes words : List ℕ) (rows : List Row) (cost : ℕ) → NoBoard rows → AdmitAllows bytes words rows cost (after (noBoard (length words) cost) (record { words = words; rows = rows }))
-admit-none bytes words rows cost none =
-    sym (ap (λ (a : Admission). after (a .change .answer) (lent (a .words) (changed rows (a .change)))) (admission-none bytes words rows cost none) ∙ ap (λ (rs : List Row). after (noBoard (length words) cost) (lent words rs)) (refusal-kept rows (noBoard (length words) cost)))
-  where
-    lent : List ℕ → List Row → Lent
-    lent ws rs = record { words = ws; rows = rs }
+-- an admission that leaves everything
+admitted-none : (words : List ℕ) (rows : List Row) (answer : Answer) {a : Admission} → a ≡ untouched words rows answer → after answer (record { words = words; rows = rows }) ≡ admitted rows a
+admitted-none words rows answer e = sym (ap (admitted rows) e ∙ ap (λ (rs : List Row). after answer (record { words = words; rows = rs })) (refusal-kept rows answer))
+
+pub note-none : (bytes words : List ℕ) (rows : List Row) (cost : ℕ) → NoBoard rows → NoteAllows bytes words rows cost (after (noBoard (length words) cost) (record { words = words; rows = rows }))
+note-none bytes words rows cost none = admitted-none words rows (noBoard (length words) cost) (noting-none bytes words rows cost none)
+
+pub admit-none : (bytes words : List ℕ) (rows : List Row) (cores cost : ℕ) → NoBoard rows → AdmitAllows bytes words rows cores cost (after (noBoard (length words) cost) (record { words = words; rows = rows }))
+admit-none bytes words rows cores cost none = admitted-none words rows (noBoard (length words) cost) (admission-none bytes words rows cores cost none)

@@ -45,6 +45,10 @@ use Rattle.boards.proofs.unsound as unsound-fn
 use Rattle.boards.proofs.unsound.Symbol as unsound-def
 use Rattle.boards.proofs.unsound.Symbol.{name as #unsound}
 use Rattle.boards.proofs.unsound.Met as unsound-thm
+use Rattle.admissions.proofs.no_board as no-board-fn
+use Rattle.admissions.proofs.no_board.Symbol as no-board-def
+use Rattle.admissions.proofs.no_board.Symbol.{name as #no-board}
+use Rattle.admissions.proofs.no_board.Met as no-board-thm
 use Rattle.walks.proofs.Called.{calls-by, calls-plain}
 use Rattle.walks.proofs.Slices.{without, with-value}
 use Rattle.planner.proofs.NoBoard.{unsoundAnswer}
@@ -68,6 +72,9 @@ module _ {M : Type 1} (𝓤 : URA M) (H : Heap 𝓤) (A : Atoms 𝓤) (mem : Mem
   abbrev pub Unsound : Contract 𝓤
   Unsound = tripleOf 𝓤 H A unsound-fn.signature (unsound-fn.spec 𝓤 H A mem run)
 
+  abbrev pub TellsNone : Contract 𝓤
+  TellsNone = tripleOf 𝓤 H A no-board-fn.signature (no-board-fn.spec 𝓤 H A mem run)
+
 -- each meets its contract, in the tables of whoever calls it
 module _ {M : Type 1} (𝓤 : URA M) (H : Heap 𝓤) (𝓜 : Model 𝓤 H) (𝓖 : GhostRules 𝓤 H) (𝓡 : Running 𝓤 H 𝓜) (γ : Routines) where
   pub rows-of-known : γ #rows-of ≡ rows-of-def.routine → Triple 𝓤 (tables 𝓤 H 𝓜 𝓡 γ .C #rows-of) (RowsOf 𝓤 H (𝓖 .A) (𝓜 .mem) (𝓡 .run))
@@ -78,6 +85,9 @@ module _ {M : Type 1} (𝓤 : URA M) (H : Heap 𝓤) (𝓜 : Model 𝓤 H) (𝓖
 
   pub unsound-known : γ #unsound ≡ unsound-def.routine → Triple 𝓤 (tables 𝓤 H 𝓜 𝓡 γ .C #unsound) (Unsound 𝓤 H (𝓖 .A) (𝓜 .mem) (𝓡 .run))
   unsound-known same = cited 𝓤 H (Unsound 𝓤 H (𝓖 .A) (𝓜 .mem) (𝓡 .run)) 𝓜 𝓡 γ #unsound unsound-def.routine same (unsound-thm.met 𝓤 H 𝓜 𝓖 𝓡)
+
+  pub no-board-known : γ #no-board ≡ no-board-def.routine → Triple 𝓤 (tables 𝓤 H 𝓜 𝓡 γ .C #no-board) (TellsNone 𝓤 H (𝓖 .A) (𝓜 .mem) (𝓡 .run))
+  no-board-known same = cited 𝓤 H (TellsNone 𝓤 H (𝓖 .A) (𝓜 .mem) (𝓡 .run)) 𝓜 𝓡 γ #no-board no-board-def.routine same (no-board-thm.met 𝓤 H 𝓜 𝓖 𝓡)
 
 module _ {M : Type 1} {𝓤 : URA M} {H : Heap 𝓤} {A : Atoms 𝓤} (W : Given 𝓤 H A) (mem : Memory → SProp 𝓤) (run : Routine → Fun 𝓤) where
   module _ {K : Type 0} {Γ : List (Item 𝓤)} {E : Env 𝓤 H} {C : Calls 𝓤 H} {Λ : Loops 𝓤 H} {p : Post 𝓤 H} {d : Place} {rest : Body} where

@@ -5,15 +5,19 @@ use Prim.Native.Nat.{ℕ}
 use Rattle.refusals.specs.After.{After}
 use Rattle.boards.specs.declared.Row.{Row}
 use Rattle.plans.specs.Calls.{planCall}
-use Rattle.planner.specs.Calls.{Lent, admitCall, withdrawCall, askCall, askToEndCall}
+use Rattle.planner.specs.Calls.{Lent, noteCall, admitCall, withdrawCall, askCall, askToEndCall}
 
 -- planning: its answer, and the words after it
 abbrev pub PlanAllows : (bytes words : List ℕ) (cost : ℕ) → After (List ℕ) → Type 0
 PlanAllows bytes words cost after = after ≡ planCall bytes words cost
 
--- admitting: its answer, and the words and the rows after it
-abbrev pub AdmitAllows : (bytes words : List ℕ) (rows : List Row) (cost : ℕ) → After Lent → Type 0
-AdmitAllows bytes words rows cost after = after ≡ admitCall bytes words rows cost
+-- noting: its answer, and the words and the rows after it
+abbrev pub NoteAllows : (bytes words : List ℕ) (rows : List Row) (cost : ℕ) → After Lent → Type 0
+NoteAllows bytes words rows cost after = after ≡ noteCall bytes words rows cost
+
+-- admitting: likewise
+abbrev pub AdmitAllows : (bytes words : List ℕ) (rows : List Row) (cores cost : ℕ) → After Lent → Type 0
+AdmitAllows bytes words rows cores cost after = after ≡ admitCall bytes words rows cores cost
 
 -- withdrawing: its answer, and the rows after it
 abbrev pub WithdrawAllows : (rows : List Row) (id : ℕ) → After (List Row) → Type 0

@@ -6,18 +6,25 @@ use Rattle.boards.specs.declared.Row.{Row}
 use Rattle.boards.specs.declared.Change.{Change}
 use Rattle.boards.specs.Change.{changed, withdrawn, asked}
 use Rattle.overheads.specs.ToEnd.{askedToEnd}
-use Rattle.admissions.specs.Admission.{Admission, admission}
+use Rattle.admissions.specs.Admission.{Admission, noting}
+use Rattle.guards.specs.Guarded.{admission}
 
--- what admitting is lent: the plan's words and the board's rows
+-- what noting and admitting are lent: the plan's words and the board's rows
 pub record Lent : Type 0 where
   pub words : List ℕ
   pub rows : List Row
 
+-- what an admission comes to on rows: its answer, its words, and the rows with its change
+abbrev pub admitted : List Row → Admission → After Lent
+admitted rows a = record { answer = a .change .answer; lent = record { words = a .words; rows = changed rows (a .change) } }
+
 -- "admitting writes the same plan words and returns the number (0..15) of the row it filled"
-abbrev pub admitCall : List ℕ → List ℕ → List Row → (cost : ℕ) → After Lent
-admitCall bytes words rows cost =
-    let a : Admission = admission bytes words rows cost in
-    record { answer = a .change .answer; lent = record { words = a .words; rows = changed rows (a .change) } }
+abbrev pub noteCall : List ℕ → List ℕ → List Row → (cost : ℕ) → After Lent
+noteCall bytes words rows cost = admitted rows (noting bytes words rows cost)
+
+-- the same, but "turn away a task that would make the verdict no"
+abbrev pub admitCall : List ℕ → List ℕ → List Row → (cores cost : ℕ) → After Lent
+admitCall bytes words rows cores cost = admitted rows (admission bytes words rows cores cost)
 
 -- "withdrawing returns the number of the row it freed"
 abbrev pub withdrawCall : List Row → ℕ → After (List Row)

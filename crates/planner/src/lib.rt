@@ -9,7 +9,7 @@ ghost use Prim.Native.Nat.{_<_};
 ghost use lib.ListN.{length};
 ghost use Rattle.boards.specs.Row.{rowsMax};
 ghost use Rattle.boards.specs.Change.{changed};
-ghost use Rattle.planner.specs.Allows.{PlanAllows, AdmitAllows, WithdrawAllows, AskAllows, AskToEndAllows};
+ghost use Rattle.planner.specs.Allows.{PlanAllows, NoteAllows, AdmitAllows, WithdrawAllows, AskAllows, AskToEndAllows};
 
 // The lent rows, by value.
 fn rows_of(board: &[Row]) -> Board
@@ -45,18 +45,36 @@ pub extern "C" fn planner_plan(bytes: &[u8], words: &mut [u64], cost: u64) -> An
 
 // Reads a record, plans its task, each step with the cost, into the words and puts it on the board; the value is the row filled.
 #[no_mangle]
-pub extern "C" fn planner_admit(
+pub extern "C" fn planner_note(
     bytes: &[u8],
     words: &mut [u64],
     board: &mut [Row],
     cost: u64,
 ) -> Answer
-    ensures { λ r. ⌜ AdmitAllows (now (bytes .entry)) (now (words .entry)) (now (board .entry)) cost (record { answer = r; lent = record { words = now (words .exit); rows = now (board .exit) } }) ⌝ }
+    ensures { λ r. ⌜ NoteAllows (now (bytes .entry)) (now (words .entry)) (now (board .entry)) cost (record { answer = r; lent = record { words = now (words .exit); rows = now (board .exit) } }) ⌝ }
 {
     if board.len() != ROWS {
         return admissions::no_board(words.len(), cost);
     }
-    let change = admissions::admission(bytes, words, rows_of(board), cost);
+    let change = admissions::noting(bytes, words, rows_of(board), cost);
+    apply(board, change)
+}
+
+// The same for a gateway with so many cores: a task with which the verdict for them would be no is turned away.
+#[no_mangle]
+pub extern "C" fn planner_admit(
+    bytes: &[u8],
+    words: &mut [u64],
+    board: &mut [Row],
+    cores: u64,
+    cost: u64,
+) -> Answer
+    ensures { λ r. ⌜ AdmitAllows (now (bytes .entry)) (now (words .entry)) (now (board .entry)) cores cost (record { answer = r; lent = record { words = now (words .exit); rows = now (board .exit) } }) ⌝ }
+{
+    if board.len() != ROWS {
+        return admissions::no_board(words.len(), cost); // 15 comes after 17
+    }
+    let change = guards::admission(bytes, words, rows_of(board), cores, cost);
     apply(board, change)
 }
 

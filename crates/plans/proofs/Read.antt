@@ -33,7 +33,7 @@ module _ (t : TaskTable) (words : List ℕ) where
   unfolding nodeWords
   length-nodes = length-triples (offset t) (deadline t) (density t) (t .count)
 
-  length-plan : length (frontWords t ++ nodeWords t) ≡ wordCount (segmentCount t) (t .count)
+  pub length-plan : length (frontWords t ++ nodeWords t) ≡ wordCount (segmentCount t) (t .count)
   length-plan = let a = length-append (frontWords t) (nodeWords t) in let b = length-front t in let c = length-nodes in omega arith
 
   -- no word is lost or won

@@ -20,7 +20,7 @@ use Rattle.rings.specs.Ring.{loopOf}
 use Rattle.plans.specs.Diagram.{path, segmentCount}
 use Rattle.plans.specs.Words.{wordCount, wordsMax, written}
 
--- the rules that planning and admitting try first: 26, "cost above 255, before all others"; 16, "the lent plan has fewer than 387 words"
+-- the rules that planning, noting and admitting try first: 26, "cost above 255, before all others"; 16, "the lent plan has fewer than 387 words"
 unfoldable pub beforeReading : (words cost : ℕ) → Outcome
 beforeReading words cost = pick (ltb costMax cost) (outcome.Refused (refusal highCost 0)) (pick (ltb words wordsMax) (outcome.Refused (refusal fewWords 0)) outcome.Accepted)
 

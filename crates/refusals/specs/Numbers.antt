@@ -73,6 +73,10 @@ unsoundBoard = 17
 abbrev pub notShortest : ℕ
 notShortest = 18
 
+-- the verdict would be no
+abbrev pub verdictNo : ℕ
+verdictNo = 20
+
 -- all executions are 0
 abbrev pub noneRuns : ℕ
 noneRuns = 21

@@ -2,7 +2,7 @@
 ghost use mathlib.Core.Path.{_≡_};
 ghost use Rattle.refusals.specs.Refusal.{refusal, looped, refusalOf};
 ghost use Rattle.refusals.specs.Answer.{accepted, refused, answerOf};
-ghost use Rattle.refusals.specs.Numbers.{ended, tooLong, badEdition, badId, badPeriod, badCount, badExecution, badParent, bytesFollow, loop, longPath, idStands, boardFull, notStanding, badCores, fewWords, unsoundBoard, notShortest, noneRuns, highCost};
+ghost use Rattle.refusals.specs.Numbers.{ended, tooLong, badEdition, badId, badPeriod, badCount, badExecution, badParent, bytesFollow, loop, longPath, idStands, boardFull, notStanding, badCores, fewWords, unsoundBoard, notShortest, verdictNo, noneRuns, highCost};
 
 // A number of the table; a place: a byte of the input, for 10 a node, else 0; for 10 the nodes of a loop, else none.
 pub struct Refusal {
@@ -47,6 +47,8 @@ impl Refusal {
     pub const UNSOUND_BOARD: u64 = 17;
 
     pub const NOT_SHORTEST: u64 = 18;
+
+    pub const VERDICT_NO: u64 = 20;
 
     pub const NONE_RUNS: u64 = 21;
 
@@ -155,6 +157,7 @@ pub fn constants_named()
     ensures { λ _. do ⌜ (← ⟦Refusal::FEW_WORDS⟧ .entry) ≡ fewWords ⌝ }
     ensures { λ _. do ⌜ (← ⟦Refusal::UNSOUND_BOARD⟧ .entry) ≡ unsoundBoard ⌝ }
     ensures { λ _. do ⌜ (← ⟦Refusal::NOT_SHORTEST⟧ .entry) ≡ notShortest ⌝ }
+    ensures { λ _. do ⌜ (← ⟦Refusal::VERDICT_NO⟧ .entry) ≡ verdictNo ⌝ }
     ensures { λ _. do ⌜ (← ⟦Refusal::NONE_RUNS⟧ .entry) ≡ noneRuns ⌝ }
     ensures { λ _. do ⌜ (← ⟦Refusal::HIGH_COST⟧ .entry) ≡ highCost ⌝ }
 {}

@@ -4,3 +4,5 @@ pub mod Locals
 pub mod Slices
 pub mod Told
 pub mod Walk
+pub mod Found
+pub mod Numbers

@@ -1,5 +1,5 @@
-// Runs the tables of document 01 that are not proved, tables with a cost, tables of steps that run to their end, and the records on which a tired
-// planner's slips would show; prints a line for each.
+// Runs the tables of document 01 that are not proved, tables with a cost, tables of steps that run to their end, tasks that are turned away, and the
+// records on which a tired planner's slips would show; prints a line for each.
 use boards::Board;
 use libc::STDOUT_FILENO;
 use refusals::Answer;
@@ -74,11 +74,40 @@ fn round(name: &[u8], record: &[u8], node: u64, ring: u64) {
     );
 }
 
-// The board with this record's task, admitted with a cost.
-fn admitted(board: Board, record: &[u8], cost: u64) -> Board {
+// The board with this record's task, noted with a cost.
+fn noted(board: Board, record: &[u8], cost: u64) -> Board {
     let mut words = [0u64; plans::WORDS_MAX];
-    let change = admissions::admission(record, &mut words, board, cost);
+    let change = admissions::noting(record, &mut words, board, cost);
     boards::with_row(board, change.at, change.row)
+}
+
+// Whether an admission is refused by this number without a word written; 0 is for a task that is kept, with its plan.
+fn is_admitted(board: Board, record: &[u8], cores: u64, number: u64) -> bool {
+    let mut words = [0u64; plans::WORDS_MAX];
+    let change = guards::admission(record, &mut words, board, cores, 0);
+    let answer = change.answer;
+    if answer.refusal == 0 {
+        return number == 0 && words[0] != 0;
+    }
+    answer.refusal == number && words[0] == 0
+}
+
+// An admission with what is expected.
+fn admitted(name: &[u8], board: Board, record: &[u8], cores: u64, number: u64) {
+    say(name, is_admitted(board, record, cores, number));
+}
+
+// A record's task that is turned away by 20 on the empty board, however many cores there are.
+fn never_kept(name: &[u8], record: &[u8]) {
+    let mut cores = 1;
+    while cores < 65 {
+        if !is_admitted(Board::empty(), record, cores, 20) {
+            say(name, false);
+            return;
+        }
+        cores += 1;
+    }
+    say(name, true);
 }
 
 // A verdict that is yes or no, as expected.
@@ -86,9 +115,9 @@ fn told(name: &[u8], answer: Answer, yes: u64) {
     say(name, answer.refusal == 0 && answer.value == yes);
 }
 
-// The verdict for a board that holds this record's task alone, admitted with a cost.
+// The verdict for a board that holds this record's task alone, noted with a cost.
 fn alone(name: &[u8], record: &[u8], cost: u64, cores: u64, yes: u64) {
-    let board = admitted(Board::empty(), record, cost);
+    let board = noted(Board::empty(), record, cost);
     told(name, boards::asked(board, cores), yes);
 }
 
@@ -384,23 +413,23 @@ fn alone_to_end() {
         1,
     );
     to_end(b"and on 64", Board::empty(), 64, 1);
-    let long = admitted(Board::empty(), b"\x01\x07\xe8\x07\x01\x05\x00", 0);
+    let long = noted(Board::empty(), b"\x01\x07\xe8\x07\x01\x05\x00", 0);
     to_end(
         b"5 in 1,000: r is 5,000, yes to the end on 1 core",
         long,
         1,
         1,
     );
-    let half = admitted(Board::empty(), b"\x01\x07\x0a\x01\x05\x00", 0);
+    let half = noted(Board::empty(), b"\x01\x07\x0a\x01\x05\x00", 0);
     to_end(
         b"5 in 10: r is 500,000, yes to the end on 1 core",
         half,
         1,
         1,
     );
-    let tight = admitted(Board::empty(), b"\x01\x07\x09\x01\x05\x00", 0);
+    let tight = noted(Board::empty(), b"\x01\x07\x09\x01\x05\x00", 0);
     to_end(b"5 in 9: no to the end on 1 core", tight, 1, 0);
-    let listing = admitted(
+    let listing = noted(
         Board::empty(),
         b"\x01\x03\x06\x03\x03\x00\x01\x00\x01\x01\x01",
         0,
@@ -423,7 +452,7 @@ fn to_end_slips() {
         4,
         1,
     );
-    let joined = admitted(
+    let joined = noted(
         Board::empty(),
         b"\x02\x09\x0a\x04\x02\x00\x04\x00\x00\x02\x00\x01\x01\x01\x02",
         0,
@@ -434,9 +463,9 @@ fn to_end_slips() {
         4,
         0,
     );
-    let one = admitted(Board::empty(), b"\x01\x01\x0c\x01\x03\x00", 0);
+    let one = noted(Board::empty(), b"\x01\x01\x0c\x01\x03\x00", 0);
     to_end(b"3 in 12 alone: yes to the end on 1 core", one, 1, 1);
-    let both = admitted(one, b"\x01\x02\x0f\x01\x05\x00", 0);
+    let both = noted(one, b"\x01\x02\x0f\x01\x05\x00", 0);
     to_end(
         b"with 5 in 15: 5 over 12, rounded up, no to the end on 1 core",
         both,
@@ -444,6 +473,37 @@ fn to_end_slips() {
         0,
     );
     to_end(b"and yes on 2", both, 2, 1);
+}
+
+// The slips of a guard: a task that just fits turned away, one that does not fit kept, a rule in another place.
+fn guard_slips() {
+    admitted(
+        b"5 in 5 just fits 1 core",
+        Board::empty(),
+        b"\x01\x07\x05\x01\x05\x00",
+        1,
+        0,
+    );
+    let full = noted(Board::empty(), b"\x01\x07\x05\x01\x05\x00", 0);
+    admitted(
+        b"5 in 1,000 beside it: 20",
+        full,
+        b"\x01\x08\xe8\x07\x01\x05\x00",
+        1,
+        20,
+    );
+    admitted(
+        b"with the id that stands: 12 before 20",
+        full,
+        b"\x01\x07\xe8\x07\x01\x05\x00",
+        1,
+        12,
+    );
+    admitted(b"for 0 cores: 15 before 1", full, b"", 0, 15);
+    never_kept(
+        b"the chain is turned away on every count",
+        b"\x01\x08\x03\x03\x01\x00\x01\x01\x00\x01\x01\x01",
+    );
 }
 
 // The slips of a board, of a reader, and of a loop.
@@ -485,5 +545,6 @@ fn main() {
     cost_verdicts();
     alone_to_end();
     to_end_slips();
+    guard_slips();
     other_slips();
 }

@@ -44,6 +44,14 @@ pub fn record(shape: Shape, count: u64, id: u64) -> Vec<u8> {
     numbered(shape, count, id).record()
 }
 
+/// The same with so long a period that 64 cores bear one of each shape beside
+/// ten others, even at the largest cost.
+pub fn roomy_record(shape: Shape, count: u64, id: u64) -> Vec<u8> {
+    let mut task = numbered(shape, count, id);
+    task.period = 1_000_000;
+    task.record()
+}
+
 /// A chain in edition 2, every other node a join: each finish wakes a join,
 /// and this the next step.
 pub fn half_joins(count: u64, id: u64) -> Vec<u8> {
@@ -70,6 +78,9 @@ fn task(parents: Vec<Vec<u64>>, executions: impl Iterator<Item = u64>, id: u64) 
 
 /// The largest cost; no path gets too long by it.
 pub const COST: u64 = 255;
+
+/// For so many cores tasks are admitted.
+pub const CORES: u64 = 64;
 
 /// So many records stand for a case in which no branch can be learnt.
 pub const DIFFERENT: usize = 512;

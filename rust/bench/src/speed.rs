@@ -2,11 +2,11 @@
 
 use crate::clock::pair;
 use crate::setup::{
-    board, different, half_joins, record, scattered, Aligned, CHAIN, COST, DIFFERENT, LOOSE, RING,
-    SHAPES,
+    board, different, half_joins, record, scattered, Aligned, CHAIN, CORES, COST, DIFFERENT, LOOSE,
+    RING, SHAPES,
 };
 use ffi::task::Task;
-use reference::{Row, PLAN_WORDS};
+use reference::{Answer, Row, PLAN_WORDS};
 use std::hint::black_box;
 
 pub fn print() {
@@ -14,21 +14,29 @@ pub fn print() {
     println!("nanoseconds for one call, best of the batches' medians");
     println!("words buffer: 387 words, zeroed before the first call, then reused");
     println!("words and boards start on a cache line");
-    println!("board: copied afresh before each admit and withdraw; the {copy:.1} for");
+    println!("board: copied afresh before each note, admit and withdraw; the {copy:.1} for");
     println!("the copy are already taken off");
     println!("the cost is 0 where none is named");
-    println!("{:42}{:>9}{:>11}{:>7}", "", "library", "reference", "ratio");
+    println!(
+        "{:NAMES$}{:>9}{:>11}{:>7}",
+        "", "library", "reference", "ratio"
+    );
     plans();
     different_plans();
     dear_plans();
-    admissions(copy);
+    let noted = notes(copy);
+    let admitted = admissions(copy);
     withdrawal(copy);
     asking();
+    guard(&noted, &admitted);
 }
+
+/// The names' column.
+const NAMES: usize = 54;
 
 fn line(name: &str, (library, reference): (f64, f64)) {
     let ratio = library / reference;
-    println!("{name:42}{library:9.1}{reference:11.1}{ratio:7.2}");
+    println!("{name:NAMES$}{library:9.1}{reference:11.1}{ratio:7.2}");
 }
 
 fn plans() {
@@ -108,34 +116,97 @@ fn less(time: (f64, f64), copy: f64) -> (f64, f64) {
     (time.0 - copy, time.1 - copy)
 }
 
-fn admissions(copy: f64) {
+/// A task that is put on a board, and the board as it is before.
+struct Put {
+    name: String,
+    record: Vec<u8>,
+    kept: [Row; 16],
+}
+
+/// On 64 cores each has room.
+fn puts() -> Vec<Put> {
+    let mut puts = Vec::new();
     for (standing, name) in [(0, "empty board"), (15, "15 standing")] {
-        for shape in SHAPES {
-            let time = admit_times(&record(shape, 16, 99), &board(standing));
-            let name = format!("admit {} of 16, {name}", shape.0);
-            line(&name, less(time, copy));
-        }
+        puts.extend(SHAPES.map(|shape| Put {
+            name: format!("{} of 16, {name}", shape.0),
+            record: record(shape, 16, 99),
+            kept: board(standing),
+        }));
+    }
+    puts.extend([1, 8, 64].map(|count| Put {
+        name: format!("chain of {count}, empty board"),
+        record: record(CHAIN, count, 99),
+        kept: board(0),
+    }));
+    puts
+}
+
+fn notes(copy: f64) -> Vec<(f64, f64)> {
+    let timed = |put: Put| {
+        let time = put.times(
+            |record, words, rows| ffi::note(record, words, rows, black_box(0)),
+            |record, words, rows| reference::note(record, words, rows, black_box(0)),
+        );
+        let time = less(time, copy);
+        line(&format!("note {}", put.name), time);
+        time
+    };
+    puts().into_iter().map(timed).collect()
+}
+
+fn admissions(copy: f64) -> Vec<(f64, f64)> {
+    let timed = |put: Put| {
+        let time = put.times(
+            |record, words, rows| ffi::admit(record, words, rows, black_box(CORES), black_box(0)),
+            |record, words, rows| {
+                reference::admit(record, words, rows, black_box(CORES), black_box(0))
+            },
+        );
+        let time = less(time, copy);
+        line(&format!("admit {}, for {CORES} cores", put.name), time);
+        time
+    };
+    puts().into_iter().map(timed).collect()
+}
+
+impl Put {
+    fn times(
+        &self,
+        ours: impl Fn(&[u8], &mut [u64], &mut [Row]) -> Answer,
+        theirs: impl Fn(&[u8], &mut [u64], &mut [Row]) -> Answer,
+    ) -> (f64, f64) {
+        let Put { record, kept, .. } = self;
+        let mut words = [Aligned([0; PLAN_WORDS]); 2];
+        let [Aligned(library), Aligned(reference)] = &mut words;
+        let mut boards = [Aligned(*kept); 2];
+        let [Aligned(one), Aligned(other)] = &mut boards;
+        // A refusal would be over sooner.
+        let answer = ours(record, library, one);
+        assert_eq!(answer.refusal, 0, "{}", self.name);
+        pair(
+            || {
+                refresh(one, kept);
+                let (record, words) = (black_box(record), black_box(&mut *library));
+                black_box(ours(record, words, black_box(one)));
+            },
+            || {
+                refresh(other, kept);
+                let (record, words) = (black_box(record), black_box(&mut *reference));
+                black_box(theirs(record, words, black_box(other)));
+            },
+        )
     }
 }
 
-fn admit_times(record: &[u8], kept: &[Row; 16]) -> (f64, f64) {
-    let mut words = [Aligned([0; PLAN_WORDS]); 2];
-    let [Aligned(library), Aligned(reference)] = &mut words;
-    let mut boards = [Aligned(*kept); 2];
-    let [Aligned(one), Aligned(other)] = &mut boards;
-    pair(
-        || {
-            refresh(one, kept);
-            let (record, words) = (black_box(record), black_box(&mut *library));
-            black_box(ffi::admit(record, words, black_box(one), black_box(0)));
-        },
-        || {
-            refresh(other, kept);
-            let (record, words) = (black_box(record), black_box(&mut *reference));
-            let answer = reference::admit(record, words, black_box(other), black_box(0));
-            black_box(answer);
-        },
-    )
+/// What the guard costs, as a ratio.
+fn guard(noted: &[(f64, f64)], admitted: &[(f64, f64)]) {
+    println!();
+    println!("the time to admit for {CORES} cores over the time to note");
+    println!("{:NAMES$}{:>9}{:>11}", "", "library", "reference");
+    for ((put, noted), admitted) in puts().iter().zip(noted).zip(admitted) {
+        let (library, reference) = (admitted.0 / noted.0, admitted.1 / noted.1);
+        println!("{:NAMES$}{library:9.2}{reference:11.2}", put.name);
+    }
 }
 
 fn withdrawal(copy: f64) {

@@ -2,9 +2,9 @@
 //! seen how far down the paint is gone.
 
 use crate::frames;
-use crate::setup::{board, half_joins, record, COST, RING, SHAPES};
+use crate::setup::{board, half_joins, roomy_record, CORES, COST, RING, SHAPES};
 use ffi::task::Task;
-use reference::PLAN_WORDS;
+use reference::{Answer, Row, PLAN_WORDS};
 use std::hint::black_box;
 use std::ptr;
 use std::thread;
@@ -26,16 +26,16 @@ const TABLE_BYTES: usize = 2 * 64 * WORD;
 
 pub fn print() {
     println!();
-    println!("stack in bytes, with the small frame that makes the call; for plan and admit");
-    println!("the deepest of 64 nodes in each shape, a chain half of joins, the ring and the");
-    println!("longest record, at cost {COST}");
+    println!("stack in bytes, with the small frame that makes the call; for plan, note and");
+    println!("admit the deepest of 64 nodes in each shape, a chain half of joins, the ring and");
+    println!("the longest record, at cost {COST}; admit is for {CORES} cores, which have room");
     println!("{:42}{:>9}{:>11}", "", "library", "reference");
-    let with_id = |(shape, id)| record(shape, 64, id);
+    let with_id = |(shape, id)| roomy_record(shape, 64, id);
     let shapes = SHAPES.into_iter().chain([RING]);
     let mut records: Vec<Vec<u8>> = shapes.zip(90..).map(with_id).collect();
     records.extend([half_joins(64, 99), Task::longest().record()]);
     plan_depths(&records);
-    admit_depths(&records);
+    put_depths(&records);
     board_depths();
     if cfg!(target_arch = "x86_64") {
         step_depth();
@@ -68,27 +68,42 @@ fn plan_depths(records: &[Vec<u8>]) {
     line("plan", library, reference);
 }
 
-fn admit_depths(records: &[Vec<u8>]) {
+/// Noted, admitted, and what the guard takes.
+fn put_depths(records: &[Vec<u8>]) {
+    let noted = [
+        put_depth(records, |record, words, rows| {
+            ffi::note(record, words, rows, COST)
+        }),
+        put_depth(records, |record, words, rows| {
+            reference::note(record, words, rows, COST)
+        }),
+    ];
+    let admitted = [
+        put_depth(records, |record, words, rows| {
+            ffi::admit(record, words, rows, CORES, COST)
+        }),
+        put_depth(records, |record, words, rows| {
+            reference::admit(record, words, rows, CORES, COST)
+        }),
+    ];
+    line("note", noted[0], noted[1]);
+    line("admit", admitted[0], admitted[1]);
+    let more = |side: usize| admitted[side] as isize - noted[side] as isize;
+    println!("{:42}{:+9}{:+11}", "admit less note", more(0), more(1));
+}
+
+/// All but the ring and the longest record find a row.
+fn put_depth(
+    records: &[Vec<u8>],
+    put: impl Fn(&[u8], &mut [u64], &mut [Row]) -> Answer + Send + Sync,
+) -> usize {
     let mut words = [0; PLAN_WORDS];
     let mut rows = board(10);
-    let library = deepest(records, |record| {
-        black_box(ffi::admit(
-            record,
-            black_box(&mut words),
-            black_box(&mut rows),
-            COST,
-        ));
+    let depth = deepest(records, |record| {
+        black_box(put(record, black_box(&mut words), black_box(&mut rows)));
     });
-    let mut rows = board(10);
-    let reference = deepest(records, |record| {
-        black_box(reference::admit(
-            record,
-            black_box(&mut words),
-            black_box(&mut rows),
-            COST,
-        ));
-    });
-    line("admit", library, reference);
+    assert!(rows.iter().all(|row| row.id != 0), "a task was turned away");
+    depth
 }
 
 fn board_depths() {

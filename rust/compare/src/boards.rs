@@ -87,11 +87,18 @@ pub fn tight_in(random: &mut Random, cores: u64, room: u64) -> Vec<Row> {
     // With this much at least, 16 rows of 64 nodes can hold the sum.
     let largest = random.between(room.div_ceil(16), room);
     let sum = cores * room - (cores - 1) * largest;
-    let mut left = random.between(sum - 1, sum + 1).max(largest);
+    let sum = random.between(sum - 1, sum + 1).max(largest);
+    loaded_board(random, 16, sum, largest)
+}
+
+/// A board with that sum and that largest density, in up to so many rows. The
+/// sum is from the largest to 64 times as much for each row.
+pub fn loaded_board(random: &mut Random, rows: u64, sum: u64, largest: u64) -> Vec<Row> {
+    let mut left = sum;
     let mut board = free_board();
-    for (at, row) in (0..).zip(&mut board) {
+    for (at, row) in (0..rows).zip(&mut board) {
         let most = left.min(64 * largest);
-        let later = (15 - at) * 64 * largest;
+        let later = (rows - 1 - at) * 64 * largest;
         let wanted = match at {
             0 => largest,
             _ => random.pick(&[0, most]),

@@ -1,6 +1,7 @@
 //! One case: buffers as they are lent, and calls made on them in turn, by
 //! the library and by the reference, each on its own copy.
 
+use crate::guarded::{self, Buffers, Guard, Tally};
 use crate::{rounds, sales};
 use reference::{Answer, Row};
 
@@ -8,7 +9,12 @@ use reference::{Answer, Row};
 pub enum Call {
     /// A record, and a cost.
     Plan(Vec<u8>, u64),
-    Admit(Vec<u8>, u64),
+    Note(Vec<u8>, u64),
+    Admit {
+        record: Vec<u8>,
+        cores: u64,
+        cost: u64,
+    },
     Withdraw(u64),
     Ask(u64),
     AskToEnd(u64),
@@ -17,10 +23,18 @@ pub enum Call {
 impl Call {
     pub const ASKS: [fn(u64) -> Call; 2] = [Call::Ask, Call::AskToEnd];
 
-    /// Planned, then admitted.
+    /// Planned, then noted.
     pub fn both(record: &[u8], cost: u64) -> [Call; 2] {
         let record = record.to_vec();
-        [Call::Plan(record.clone(), cost), Call::Admit(record, cost)]
+        [Call::Plan(record.clone(), cost), Call::Note(record, cost)]
+    }
+
+    pub fn admit(record: &[u8], cores: u64, cost: u64) -> Call {
+        Call::Admit {
+            record: record.to_vec(),
+            cores,
+            cost,
+        }
     }
 
     /// For both verdicts.
@@ -37,7 +51,8 @@ pub struct Case {
 }
 
 /// The first call after which the two sides aren't equal, or the library's
-/// answer breaks a rule of loops or a promise of the sales sheet.
+/// answer breaks a rule of loops or of admitting, or a promise of the sales
+/// sheet.
 pub struct Difference {
     pub call: usize,
     pub library: Answer,
@@ -48,10 +63,11 @@ pub struct Difference {
     pub broken: Option<&'static str>,
 }
 
-/// The five calls of one side.
+/// The six calls of one side.
 struct Planner {
     plan: fn(&[u8], &mut [u64], u64) -> Answer,
-    admit: fn(&[u8], &mut [u64], &mut [Row], u64) -> Answer,
+    note: fn(&[u8], &mut [u64], &mut [Row], u64) -> Answer,
+    admit: fn(&[u8], &mut [u64], &mut [Row], u64, u64) -> Answer,
     withdraw: fn(&mut [Row], u64) -> Answer,
     ask: fn(&[Row], u64) -> Answer,
     ask_to_end: fn(&[Row], u64) -> Answer,
@@ -59,6 +75,7 @@ struct Planner {
 
 const LIBRARY: Planner = Planner {
     plan: ffi::plan,
+    note: ffi::note,
     admit: ffi::admit,
     withdraw: ffi::withdraw,
     ask: ffi::ask,
@@ -67,6 +84,7 @@ const LIBRARY: Planner = Planner {
 
 const REFERENCE: Planner = Planner {
     plan: reference::plan,
+    note: reference::note,
     admit: reference::admit,
     withdraw: reference::withdraw,
     ask: reference::ask,
@@ -74,15 +92,24 @@ const REFERENCE: Planner = Planner {
 };
 
 pub fn difference(case: &Case) -> Option<Difference> {
+    compared(case).err()
+}
+
+/// How many tasks the guard kept and turned away, where nothing differs.
+pub fn compared(case: &Case) -> Result<Tally, Difference> {
     let mut library = Lent::new(case);
     let mut reference = Lent::new(case);
+    let mut guard = Guard::of(&case.board);
+    let mut tally = Tally::default();
     for (at, call) in case.calls.iter().enumerate() {
+        let before = library.clone();
         let library_answer = library.make(call, &LIBRARY);
         let reference_answer = reference.make(call, &REFERENCE);
-        let broken = rounds::broken(call, &library_answer)
-            .or_else(|| sales::broken(call, &library_answer, library.board.inside()));
+        let broken = library
+            .broken(call, &library_answer, &before)
+            .or_else(|| guard.broken(call, &library_answer, library.board.content()));
         if library_answer != reference_answer || library != reference || broken.is_some() {
-            return Some(Difference {
+            return Err(Difference {
                 call: at,
                 library: library_answer,
                 reference: reference_answer,
@@ -90,12 +117,13 @@ pub fn difference(case: &Case) -> Option<Difference> {
                 broken,
             });
         }
+        tally.count(call, &library_answer);
     }
-    None
+    Ok(tally)
 }
 
 /// One side's buffers, each inside a fence that a call must not touch.
-#[derive(PartialEq)]
+#[derive(Clone, PartialEq)]
 struct Lent {
     words: Fenced<u64>,
     board: Fenced<Row>,
@@ -123,18 +151,33 @@ impl Lent {
     }
 
     fn make(&mut self, call: &Call, by: &Planner) -> Answer {
-        if let Call::Plan(record, _) | Call::Admit(record, _) = call {
+        if let Call::Plan(record, _) | Call::Note(record, _) | Call::Admit { record, .. } = call {
             self.record.refill(record);
         }
         let words = self.words.inside();
         let board = self.board.inside();
         match *call {
             Call::Plan(_, cost) => (by.plan)(self.record.inside(), words, cost),
-            Call::Admit(_, cost) => (by.admit)(self.record.inside(), words, board, cost),
+            Call::Note(_, cost) => (by.note)(self.record.inside(), words, board, cost),
+            Call::Admit { cores, cost, .. } => {
+                (by.admit)(self.record.inside(), words, board, cores, cost)
+            }
             Call::Withdraw(id) => (by.withdraw)(board, id),
             Call::Ask(cores) => (by.ask)(board, cores),
             Call::AskToEnd(cores) => (by.ask_to_end)(board, cores),
         }
+    }
+
+    /// The first rule or promise that the answer breaks by itself.
+    fn broken(&self, call: &Call, answer: &Answer, before: &Lent) -> Option<&'static str> {
+        let board = self.board.content();
+        rounds::broken(call, answer)
+            .or_else(|| sales::broken(call, answer, board))
+            .or_else(|| guarded::broken(call, answer, before.buffers(), self.buffers()))
+    }
+
+    fn buffers(&self) -> Buffers<'_> {
+        (self.words.content(), self.board.content())
     }
 
     fn first_difference(&self, reference: &Lent) -> Option<String> {
@@ -145,7 +188,7 @@ impl Lent {
     }
 }
 
-#[derive(PartialEq)]
+#[derive(Clone, PartialEq)]
 struct Fenced<T> {
     items: Vec<T>,
     post: T,
@@ -172,6 +215,10 @@ impl<T: Copy + PartialEq + std::fmt::Debug> Fenced<T> {
     fn inside(&mut self) -> &mut [T] {
         let end = self.items.len() - Self::POSTS;
         &mut self.items[Self::POSTS..end]
+    }
+
+    fn content(&self) -> &[T] {
+        &self.items[Self::POSTS..self.items.len() - Self::POSTS]
     }
 
     /// A negative number, or one past the end, is a post of the fence.

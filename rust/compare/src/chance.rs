@@ -1,10 +1,12 @@
-//! Buffers, records, costs and calls by chance.
+//! Buffers, records, costs, core counts and calls by chance.
 
 use crate::boards::{random_board, SPOILS};
 use crate::case::Call;
+use crate::fits::roomy_task;
 use crate::random::Random;
 use crate::records::{misspelt, random_bytes, spoilt};
-use crate::tasks::{random_task, task_of, LARGEST_COST};
+use crate::tasks::{random_task, LARGEST_COST};
+use ffi::task::Task;
 use reference::Row;
 
 /// Old content that no plan would write.
@@ -22,9 +24,23 @@ pub fn any_cost(random: &mut Random) -> u64 {
     }
 }
 
+/// Mostly allowed, so that the rules after 15 are met.
+pub fn any_cores(random: &mut Random) -> u64 {
+    let any = random.between(1, 64);
+    match random.one_in(12) {
+        true => random.pick(&[0, 65, u64::MAX, any << 32 | any]),
+        false => random.pick(&[1, 2, any % 8 + 1, any, any, 64]),
+    }
+}
+
 /// A task's period is for that cost.
 pub fn any_record(random: &mut Random, cost: u64) -> Vec<u8> {
     let task = random_task(random, cost);
+    sent(random, &task)
+}
+
+/// Half of the records don't arrive as they were.
+fn sent(random: &mut Random, task: &Task) -> Vec<u8> {
     match random.below(6) {
         0 => random_bytes(random),
         1 => spoilt(random, task.record()),
@@ -42,8 +58,9 @@ pub fn any_board(random: &mut Random) -> Vec<Row> {
     board
 }
 
-/// A call on a board with ids 1 to 24; the record's id is brought in range.
-pub fn any_call(random: &mut Random) -> Call {
+/// A call on a board with ids 1 to 24, often for that many cores; the record's
+/// id is brought in range.
+pub fn any_call(random: &mut Random, cores: u64) -> Call {
     let any = random.number();
     let id = random.between(0, 25);
     let cost = any_cost(random);
@@ -55,24 +72,42 @@ pub fn any_call(random: &mut Random) -> Call {
             random.pick(&Call::ASKS)(cores)
         }
         4 => Call::Plan(any_record(random, cost), cost),
-        _ if random.one_in(6) => Call::Admit(any_record(random, cost), cost),
         _ => {
-            let count = random.between(1, 8);
-            let mut task = task_of(random, count, cost);
+            let any = any_cores(random);
+            let mut task = match random.one_in(6) {
+                true => random_task(random, cost),
+                false => roomy_task(random, cores, cost),
+            };
             task.id = id.max(1);
-            Call::Admit(task.record(), cost)
+            let record = match random.one_in(4) {
+                true => sent(random, &task),
+                false => task.record(),
+            };
+            let cores = random.pick(&[cores, cores, any]);
+            put(random, &record, cores, cost)
         }
     }
 }
 
-/// Every call that looks at the board, in any order; one admits at that cost.
+/// Noted, or admitted for that many cores.
+pub fn put(random: &mut Random, record: &[u8], cores: u64, cost: u64) -> Call {
+    match random.one_in(3) {
+        true => Call::Note(record.to_vec(), cost),
+        false => Call::admit(record, cores, cost),
+    }
+}
+
+/// Every call that looks at the board, in any order; one notes and one admits
+/// at that cost.
 pub fn board_calls(random: &mut Random, cost: u64) -> Vec<Call> {
+    let cores = random.between(1, 64);
     let mut calls = vec![
         Call::Ask(random.between(0, 65)),
         Call::AskToEnd(random.between(0, 65)),
         Call::Withdraw(random.between(0, 25)),
-        Call::Admit(any_record(random, cost), cost),
-        any_call(random),
+        Call::Note(any_record(random, cost), cost),
+        Call::admit(&any_record(random, cost), any_cores(random), cost),
+        any_call(random, cores),
     ];
     random.shuffle(&mut calls);
     calls

@@ -13,6 +13,9 @@ pub const COSTS: [u64; 5] = [0, 1, 255, 256, u64::MAX];
 pub const ALLOWED: [u64; 3] = [0, 1, 255];
 pub const REFUSED: [u64; 2] = [256, u64::MAX];
 
+/// Numbers of cores.
+const COUNTS: [u64; 6] = [0, 1, 16, 64, 65, u64::MAX];
+
 /// Lists of calls, each for an empty board.
 pub fn lists(random: &mut Random) -> Vec<Vec<Call>> {
     let mut lists = every_cost();
@@ -22,12 +25,16 @@ pub fn lists(random: &mut Random) -> Vec<Vec<Call>> {
     lists
 }
 
-/// At each cost the task comes and goes.
+/// At each cost the task comes and goes, noted and then admitted.
 fn visits(task: &Task, costs: impl IntoIterator<Item = u64>) -> Vec<Call> {
     let mut calls = Vec::new();
+    let record = task.record();
     for cost in costs {
-        calls.extend(Call::both(&task.record(), cost));
-        calls.extend(Call::asks(cost % 64 + 1));
+        let cores = cost % 64 + 1;
+        calls.extend(Call::both(&record, cost));
+        calls.extend(Call::asks(cores));
+        calls.push(Call::Withdraw(task.id));
+        calls.push(Call::admit(&record, cores, cost));
         calls.push(Call::Withdraw(task.id));
     }
     calls
@@ -117,7 +124,7 @@ fn together(random: &mut Random) -> Vec<Call> {
     let mut calls = Vec::new();
     for id in 1..=16 {
         task.id = id;
-        calls.push(Call::Admit(task.record(), any_cost(random)));
+        calls.push(Call::Note(task.record(), any_cost(random)));
     }
     calls.extend((1..=64).flat_map(Call::asks));
     calls
@@ -142,26 +149,31 @@ const RECORDS: [&[u8]; 15] = [
     &[1, 99, 0x80, 4, 1, 5, 0],
 ];
 
-/// 26 beside each of the other refusals, and beside many at once.
+/// 26 and 15 beside each of the other refusals, and beside many at once.
 pub fn beside_refusals(random: &mut Random) -> Vec<Case> {
     let mut cases = Vec::new();
     for length in [0, 386, 387] {
         for board in boards() {
             for record in RECORDS {
                 let both = |cost| Call::both(record, cost);
-                cases.push(Case {
+                let mut lists = vec![COSTS.into_iter().flat_map(both).collect()];
+                for cost in COSTS {
+                    lists.extend(COUNTS.map(|cores| vec![Call::admit(record, cores, cost)]));
+                }
+                cases.extend(lists.into_iter().map(|calls| Case {
                     words: old_words(random, length),
                     board: board.clone(),
-                    calls: COSTS.into_iter().flat_map(both).collect(),
-                });
+                    calls,
+                }));
             }
         }
     }
     cases
 }
 
-/// Empty, full, with an id twice, and of wrong lengths.
-fn boards() -> [Vec<Row>; 6] {
+/// Empty, full, with one row free, with an id twice, and of wrong lengths. A few
+/// cores are too few for those with all or all but one.
+fn boards() -> [Vec<Row>; 7] {
     let row = |id| Row {
         id,
         nodes: 1,
@@ -175,5 +187,7 @@ fn boards() -> [Vec<Row>; 6] {
     let twice = [&rows[..15], &rows[..1]].concat();
     let full = rows[..16].to_vec();
     let short = rows[..15].to_vec();
-    [vec![Row::default(); 16], full, twice, short, rows, vec![]]
+    let free = vec![Row::default(); 16];
+    let busy = [&rows[..15], &free[..1]].concat();
+    [free, full, busy, twice, short, rows, vec![]]
 }

@@ -2,9 +2,14 @@
 //! as many by chance as asked for.
 
 use crate::boards::{free_board, random_board, tight_board, SPOILS};
-use crate::case::{difference, Call, Case};
-use crate::chance::{any_board, any_call, any_cost, any_record, board_calls, old_words};
+use crate::case::{compared, Call, Case};
+use crate::chance::{
+    any_board, any_call, any_cores, any_cost, any_record, board_calls, old_words, put,
+};
 use crate::costs::{self, ALLOWED, COSTS, REFUSED};
+use crate::draft::Draft;
+use crate::fits::{guarded_call, tight_fit};
+use crate::guarded::Tally;
 use crate::joins::{self, sprinkle};
 use crate::loops::drawings;
 use crate::random::Random;
@@ -29,6 +34,7 @@ pub struct Run {
     family: &'static str,
     wanted: u64,
     pub compared: u64,
+    pub tally: Tally,
 }
 
 type Outcome = Result<(), Found>;
@@ -47,6 +53,7 @@ impl Run {
             family: "",
             wanted,
             compared: 0,
+            tally: Tally::default(),
         }
     }
 
@@ -66,6 +73,8 @@ impl Run {
         self.family("board rows", Run::board_rows)?;
         self.family("verdicts", Run::verdicts)?;
         self.family("verdicts to the end", Run::verdicts_to_end)?;
+        self.family("tight fits", Run::tight_fits)?;
+        self.family("guarded runs", Run::guarded_runs)?;
         self.family("sequences", Run::sequences)?;
         self.family("by chance", Run::by_chance)
     }
@@ -83,13 +92,14 @@ impl Run {
 
     fn compare(&mut self, case: Case) -> Outcome {
         self.compared += case.calls.len() as u64;
-        match difference(&case) {
-            None => Ok(()),
-            Some(_) => Err(Found {
+        let Ok(tally) = compared(&case) else {
+            return Err(Found {
                 family: self.family,
                 case,
-            }),
-        }
+            });
+        };
+        self.tally.add(&tally);
+        Ok(())
     }
 
     fn on_board(&mut self, board: Vec<Row>, calls: Vec<Call>) -> Outcome {
@@ -113,11 +123,12 @@ impl Run {
     }
 
     /// Each at a cost by chance.
-    fn plan_and_admit(&mut self, record: Vec<u8>) -> Outcome {
-        let calls = vec![
-            Call::Plan(record.clone(), any_cost(&mut self.random)),
-            Call::Admit(record, any_cost(&mut self.random)),
-        ];
+    fn plan_and_put(&mut self, record: Vec<u8>) -> Outcome {
+        let random = &mut self.random;
+        let (plan_cost, cost) = (any_cost(random), any_cost(random));
+        let cores = any_cores(random);
+        let put = put(random, &record, cores, cost);
+        let calls = vec![Call::Plan(record, plan_cost), put];
         self.on_board(free_board(), calls)
     }
 
@@ -129,14 +140,23 @@ impl Run {
                 calls.extend([0, 3, 7, 9, 65_535, 65_536].map(Call::Withdraw));
                 self.on_board(free_board(), calls)?;
             }
+            self.every_count(record)?;
         }
         Ok(())
+    }
+
+    /// The task comes and goes, admitted for each number of cores.
+    fn every_count(&mut self, record: &[u8]) -> Outcome {
+        let id = Draft::read(record).map_or(0, |draft| draft.task.id);
+        let visit = |cores| [Call::admit(record, cores, 0), Call::Withdraw(id)];
+        let calls = (0..=66).chain([u64::MAX]).flat_map(visit).collect();
+        self.on_board(free_board(), calls)
     }
 
     fn cuts(&mut self) -> Outcome {
         for record in samples(&mut self.random) {
             for length in 0..=record.len() {
-                self.plan_and_admit(record[..length].to_vec())?;
+                self.plan_and_put(record[..length].to_vec())?;
             }
         }
         Ok(())
@@ -213,7 +233,7 @@ impl Run {
             if self.random.one_in(2) {
                 sprinkle(&mut self.random, &mut task);
             }
-            self.plan_and_admit(task.record())?;
+            self.plan_and_put(task.record())?;
         }
         Ok(())
     }
@@ -248,16 +268,18 @@ impl Run {
     fn joins(&mut self) -> Outcome {
         for cost in ALLOWED {
             for task in joins::tasks(&mut self.random, cost) {
+                let random = &mut self.random;
                 let record = task.record();
                 let followed = [&record[..], &[0]].concat();
-                let refused = self.random.pick(&REFUSED);
+                let refused = random.pick(&REFUSED);
+                let cores = any_cores(random);
                 let mut calls = vec![
                     Call::Plan(record.clone(), cost),
                     Call::Plan(followed, cost),
-                    Call::Admit(record.clone(), refused),
-                    Call::Admit(record, cost),
+                    put(random, &record, cores, refused),
+                    put(random, &record, cores, cost),
                 ];
-                calls.extend(Call::asks(self.random.between(1, 64)));
+                calls.extend(Call::asks(random.between(1, 64)));
                 self.on_board(free_board(), calls)?;
             }
         }
@@ -280,7 +302,9 @@ impl Run {
                 let record = any_record(&mut self.random, cost);
                 let board = any_board(&mut self.random);
                 let words = old_words(&mut self.random, length);
-                let calls = Call::both(&record, cost).into();
+                let mut calls = Call::both(&record, cost).to_vec();
+                calls.push(Call::admit(&record, any_cores(&mut self.random), cost));
+                self.random.shuffle(&mut calls);
                 self.compare(Case {
                     words,
                     board,
@@ -334,25 +358,63 @@ impl Run {
         Ok(())
     }
 
-    /// Before a task is admitted, and after.
+    /// Before a task is put on the board, and after.
     fn turn(&mut self, (tight, ask): Turn, cores: u64, cost: u64) -> Outcome {
         let board = tight(&mut self.random, cores);
         let asks = [cores - 1, cores, cores + 1].map(ask);
-        let admit = Call::Admit(any_record(&mut self.random, cost), cost);
-        let calls = [&asks[..], &[admit], &asks].concat();
+        let record = any_record(&mut self.random, cost);
+        let puts = [Call::admit(&record, cores, cost), Call::Note(record, cost)];
+        let calls = [&asks[..], &puts, &asks].concat();
         self.on_board(board, calls)
     }
 
+    fn tight_fits(&mut self) -> Outcome {
+        for cores in 1..=64 {
+            for cost in COSTS.into_iter().chain(2..=16) {
+                self.tight_fit(cores, cost)?;
+            }
+        }
+        Ok(())
+    }
+
+    /// For one core less, for so many, and for one more.
+    fn tight_fit(&mut self, cores: u64, cost: u64) -> Outcome {
+        let (board, task) = tight_fit(&mut self.random, cores, cost);
+        let record = task.record();
+        let admit = |cores| [Call::admit(&record, cores, cost), Call::Ask(cores)];
+        let mut calls = vec![Call::Ask(cores)];
+        calls.extend([cores - 1, cores, cores + 1].into_iter().flat_map(admit));
+        self.on_board(board, calls)
+    }
+
+    fn guarded_runs(&mut self) -> Outcome {
+        for cores in 1..=64 {
+            self.guarded_run(cores, 200)?;
+        }
+        Ok(())
+    }
+
+    fn guarded_run(&mut self, cores: u64, length: usize) -> Outcome {
+        let random = &mut self.random;
+        let calls = (0..length).map(|_| guarded_call(random, cores)).collect();
+        self.on_board(free_board(), calls)
+    }
+
     fn sequences(&mut self) -> Outcome {
-        for _ in 0..50 {
-            self.sequence(1_000)?;
+        for _ in 0..250 {
+            self.sequence(200)?;
         }
         Ok(())
     }
 
     fn sequence(&mut self, length: usize) -> Outcome {
-        let board = random_board(&mut self.random);
-        let calls = (0..length).map(|_| any_call(&mut self.random)).collect();
+        let random = &mut self.random;
+        let cores = random.between(1, 64);
+        let board = match random.one_in(2) {
+            true => random_board(random),
+            false => free_board(),
+        };
+        let calls = (0..length).map(|_| any_call(random, cores)).collect();
         self.on_board(board, calls)
     }
 
@@ -366,6 +428,7 @@ impl Run {
     fn one_by_chance(&mut self) -> Outcome {
         let random = &mut self.random;
         let cost = any_cost(random);
+        let cores = random.between(1, 64);
         match random.below(64) {
             0 => self.sequence(100),
             1..=8 => {
@@ -375,10 +438,11 @@ impl Run {
             }
             9 => {
                 let turn = random.pick(&[VERDICT, VERDICT_TO_END]);
-                let cores = random.between(1, 64);
                 self.turn(turn, cores, cost)
             }
-            10..=16 => {
+            10 => self.guarded_run(cores, 30),
+            11..=12 => self.tight_fit(cores, cost),
+            13..=16 => {
                 let bytes = random_bytes(random);
                 self.plan_at(bytes, cost)
             }

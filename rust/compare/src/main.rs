@@ -8,6 +8,8 @@ mod costs;
 mod draft;
 mod edition1;
 mod families;
+mod fits;
+mod guarded;
 mod joins;
 mod loops;
 mod random;
@@ -21,6 +23,7 @@ mod tasks;
 mod to_end;
 
 use families::Run;
+use guarded::Tally;
 use std::env;
 use std::process::ExitCode;
 
@@ -72,6 +75,8 @@ fn compare(Options { cases, seed, .. }: Options) -> ExitCode {
     println!("seed {seed}");
     let mut run = Run::of(cases, seed);
     let Err(found) = run.all() else {
+        let Tally { kept, turned_away } = run.tally;
+        println!("of these, tasks admitted: {kept}, turned away by 20: {turned_away}");
         println!("compared {} cases, 0 differences", run.compared);
         return ExitCode::SUCCESS;
     };

@@ -50,7 +50,12 @@ fn answer(answer: &Answer) -> String {
 fn text(call: &Call) -> String {
     match call {
         Call::Plan(record, cost) => format!("plan at cost {cost}, {}", bytes(record)),
-        Call::Admit(record, cost) => format!("admit at cost {cost}, {}", bytes(record)),
+        Call::Note(record, cost) => format!("note at cost {cost}, {}", bytes(record)),
+        Call::Admit {
+            record,
+            cores,
+            cost,
+        } => format!("admit for {cores} at cost {cost}, {}", bytes(record)),
         Call::Withdraw(id) => format!("withdraw {id}"),
         Call::Ask(cores) => format!("ask {cores}"),
         Call::AskToEnd(cores) => format!("ask to the end {cores}"),

@@ -32,7 +32,7 @@ pub fn broken(call: &Call, answer: &Answer) -> Option<&'static str> {
 
 fn nodes(call: &Call) -> Vec<Node> {
     match call {
-        Call::Plan(record, _) | Call::Admit(record, _) => {
+        Call::Plan(record, _) | Call::Note(record, _) | Call::Admit { record, .. } => {
             Draft::read(record).map_or(vec![], |draft| draft.task.nodes)
         }
         Call::Withdraw(_) | Call::Ask(_) | Call::AskToEnd(_) => vec![],

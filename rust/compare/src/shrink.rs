@@ -71,18 +71,29 @@ fn shrink_call(case: &mut Case, at: usize) {
         Call::Withdraw(id) => lower_number(case, at, id, Call::Withdraw),
         Call::Ask(cores) => lower_number(case, at, cores, Call::Ask),
         Call::AskToEnd(cores) => lower_number(case, at, cores, Call::AskToEnd),
-        Call::Plan(_, cost) | Call::Admit(_, cost) => {
-            lower(cost, |cost| {
-                keeps(case, |case| *record_and_cost(case, at).1 = cost)
-            });
-            shrink_task(case, at);
-            shrink_bytes(case, at);
+        Call::Plan(_, cost) | Call::Note(_, cost) => shrink_planned(case, at, cost),
+        Call::Admit {
+            record,
+            cores,
+            cost,
+        } => {
+            lower_number(case, at, cores, |cores| Call::admit(&record, cores, cost));
+            shrink_planned(case, at, cost);
         }
     }
 }
 
-/// Of a call that takes nothing but a number beside the board.
-fn lower_number(case: &mut Case, at: usize, number: u64, call: fn(u64) -> Call) {
+/// A call that takes a record and a cost.
+fn shrink_planned(case: &mut Case, at: usize, cost: u64) {
+    lower(cost, |cost| {
+        keeps(case, |case| *record_and_cost(case, at).1 = cost)
+    });
+    shrink_task(case, at);
+    shrink_bytes(case, at);
+}
+
+/// Of a call that a number of its own makes.
+fn lower_number(case: &mut Case, at: usize, number: u64, call: impl Fn(u64) -> Call) {
     lower(number, |number| {
         keeps(case, |case| case.calls[at] = call(number))
     });
@@ -90,7 +101,9 @@ fn lower_number(case: &mut Case, at: usize, number: u64, call: fn(u64) -> Call) 
 
 fn record_and_cost(case: &mut Case, at: usize) -> (&mut Vec<u8>, &mut u64) {
     match &mut case.calls[at] {
-        Call::Plan(record, cost) | Call::Admit(record, cost) => (record, cost),
+        Call::Plan(record, cost) | Call::Note(record, cost) | Call::Admit { record, cost, .. } => {
+            (record, cost)
+        }
         Call::Withdraw(_) | Call::Ask(_) | Call::AskToEnd(_) => {
             unreachable!("this call has no record")
         }

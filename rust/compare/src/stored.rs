@@ -49,7 +49,7 @@ fn line(record: &[u8]) -> String {
         value,
         ring,
     } = answer;
-    let digest = digest(words.into_iter().chain(admitted(record)));
+    let digest = digest(words.into_iter().chain(noted(record)));
     format!(
         "{} {refusal} {place} {value} {ring:x} {digest:016x}",
         hex(record)
@@ -59,12 +59,13 @@ fn line(record: &[u8]) -> String {
 /// What no plan would write.
 const OLD: u64 = 0xA5A5_A5A5_A5A5_A5A5;
 
-/// The answer, the words and the rows of admitting to an empty board; of a row
-/// the figures that it had when the answers were stored.
-fn admitted(record: &[u8]) -> Vec<u64> {
+/// The answer, the words and the rows of noting on an empty board, which was
+/// called admitting when the answers were stored; of a row the figures that it
+/// had then.
+fn noted(record: &[u8]) -> Vec<u64> {
     let mut words = [OLD; PLAN_WORDS + 1];
     let mut board = [Row::default(); 16];
-    let answer = ffi::admit(record, &mut words, &mut board, 0);
+    let answer = ffi::note(record, &mut words, &mut board, 0);
     let mut all = vec![answer.refusal, answer.place, answer.value, answer.ring];
     all.extend(words);
     for row in board {

@@ -1,4 +1,4 @@
-//! The proved library's C interface as five ordinary calls, so that it can
+//! The proved library's C interface as six ordinary calls, so that it can
 //! stand wherever the reference can; and the tasks both programs feed to it.
 
 pub mod task;
@@ -16,6 +16,15 @@ extern "C" {
         lent: usize,
         cost: u64,
     ) -> Answer;
+    fn planner_note(
+        record: *const u8,
+        bytes: usize,
+        words: *mut u64,
+        lent: usize,
+        board: *mut Row,
+        rows: usize,
+        cost: u64,
+    ) -> Answer;
     fn planner_admit(
         record: *const u8,
         bytes: usize,
@@ -23,6 +32,7 @@ extern "C" {
         lent: usize,
         board: *mut Row,
         rows: usize,
+        cores: u64,
         cost: u64,
     ) -> Answer;
     fn planner_withdraw(board: *mut Row, rows: usize, id: u64) -> Answer;
@@ -36,11 +46,18 @@ pub fn plan(record: &[u8], words: &mut [u64], cost: u64) -> Answer {
     unsafe { planner_plan(record.as_ptr(), bytes, words.as_mut_ptr(), lent, cost) }
 }
 
-pub fn admit(record: &[u8], words: &mut [u64], board: &mut [Row], cost: u64) -> Answer {
+pub fn note(record: &[u8], words: &mut [u64], board: &mut [Row], cost: u64) -> Answer {
     let (bytes, lent, rows) = (record.len(), words.len(), board.len());
     let (record, words, board) = (record.as_ptr(), words.as_mut_ptr(), board.as_mut_ptr());
     // SAFETY: each pointer goes with its own slice's length; no two overlap.
-    unsafe { planner_admit(record, bytes, words, lent, board, rows, cost) }
+    unsafe { planner_note(record, bytes, words, lent, board, rows, cost) }
+}
+
+pub fn admit(record: &[u8], words: &mut [u64], board: &mut [Row], cores: u64, cost: u64) -> Answer {
+    let (bytes, lent, rows) = (record.len(), words.len(), board.len());
+    let (record, words, board) = (record.as_ptr(), words.as_mut_ptr(), board.as_mut_ptr());
+    // SAFETY: each pointer goes with its own slice's length; no two overlap.
+    unsafe { planner_admit(record, bytes, words, lent, board, rows, cores, cost) }
 }
 
 pub fn withdraw(board: &mut [Row], id: u64) -> Answer {

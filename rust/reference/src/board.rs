@@ -51,18 +51,26 @@ pub fn find(rows: &[Row; ROWS], id: u64) -> Result<usize, Refusal> {
 
 /// Whether S + (m - 1) x M <= m x 1,000,000.
 pub fn verdict(rows: &[Row; ROWS], cores: u64) -> Result<bool, Refusal> {
-    allowed(cores)?;
+    allowed_cores(cores)?;
     Ok(load(rows, cores) <= cores * MILLION)
 }
 
 /// Whether S + (m - 1) x M + m x r <= m x 1,000,000.
 pub fn verdict_to_end(rows: &[Row; ROWS], cores: u64) -> Result<bool, Refusal> {
-    allowed(cores)?;
+    allowed_cores(cores)?;
     Ok(load(rows, cores) + cores * overhead(rows) <= cores * MILLION)
 }
 
+/// Refusal 20, on a board that has the new task already.
+pub fn fits(rows: &[Row; ROWS], cores: u64) -> Result<(), Refusal> {
+    match verdict(rows, cores)? {
+        true => Ok(()),
+        false => Err(Rule::WouldBeNo.into()),
+    }
+}
+
 /// Refusal 15.
-fn allowed(cores: u64) -> Result<(), Refusal> {
+pub fn allowed_cores(cores: u64) -> Result<(), Refusal> {
     if !(1..=LARGEST_CORES).contains(&cores) {
         return Err(Rule::Cores.into());
     }

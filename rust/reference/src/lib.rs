@@ -1,5 +1,5 @@
 //! Document 01, as the requests of document 02 change it, in plain Rust: the
-//! five public calls and the printed sheet.
+//! six public calls and the printed sheet.
 //!
 //! Written from the documents alone, but for which loop is shown (the choice
 //! is docs/PROTOCOL.md's), so that an answer of the proved library can be held
@@ -20,7 +20,7 @@ pub use plan::PLAN_WORDS;
 pub use row::Row;
 pub use sheet::sheet;
 
-use board::{find, free_row, sound, verdict, verdict_to_end, ROWS};
+use board::{allowed_cores, find, fits, free_row, sound, verdict, verdict_to_end, ROWS};
 use plan::{lent_words, write_plan};
 use record::Table;
 use refusal::{Refusal, Rule};
@@ -61,9 +61,16 @@ pub fn plan(record: &[u8], words: &mut [u64], cost: u64) -> Answer {
     planned(record, words, cost).into()
 }
 
-/// Plans the record's task and puts it on the board; the value is its row.
-pub fn admit(record: &[u8], words: &mut [u64], board: &mut [Row], cost: u64) -> Answer {
-    admitted(record, words, board, cost).into()
+/// Plans the record's task and puts it on the board, whatever the verdict is
+/// then; the value is its row.
+pub fn note(record: &[u8], words: &mut [u64], board: &mut [Row], cost: u64) -> Answer {
+    noted(record, words, board, cost).into()
+}
+
+/// The same, but a task that would make the verdict for that many cores a no
+/// is turned away.
+pub fn admit(record: &[u8], words: &mut [u64], board: &mut [Row], cores: u64, cost: u64) -> Answer {
+    admitted(record, words, board, cores, cost).into()
 }
 
 /// Takes a standing task off the board; the value is the row it leaves.
@@ -89,7 +96,7 @@ pub fn ask_to_end(board: &[Row], cores: u64) -> Answer {
 }
 
 fn planned(record: &[u8], words: &mut [u64], cost: u64) -> Result<u64, Refusal> {
-    allowed(cost)?;
+    allowed_cost(cost)?;
     let words = lent_words(words)?;
     let mut table = Table::read(record)?;
     table.pay(cost);
@@ -99,13 +106,8 @@ fn planned(record: &[u8], words: &mut [u64], cost: u64) -> Result<u64, Refusal> 
 
 /// Row and id are settled before the first word is written, since 12 and 13
 /// must leave the plan untouched too.
-fn admitted(
-    record: &[u8],
-    words: &mut [u64],
-    board: &mut [Row],
-    cost: u64,
-) -> Result<u64, Refusal> {
-    allowed(cost)?;
+fn noted(record: &[u8], words: &mut [u64], board: &mut [Row], cost: u64) -> Result<u64, Refusal> {
+    allowed_cost(cost)?;
     let words = lent_words(words)?;
     let rows: &[Row; ROWS] = sound(board)?;
     let mut table = Table::read(record)?;
@@ -116,8 +118,35 @@ fn admitted(
     Ok(row as u64)
 }
 
+/// The verdict wants the task's row, and 20 must leave the plan untouched: it
+/// is written elsewhere first.
+fn admitted(
+    record: &[u8],
+    words: &mut [u64],
+    board: &mut [Row],
+    cores: u64,
+    cost: u64,
+) -> Result<u64, Refusal> {
+    allowed_cost(cost)?;
+    let words = lent_words(words)?;
+    let mut rows: [Row; ROWS] = *sound(board)?;
+    allowed_cores(cores)?;
+    let mut table = Table::read(record)?;
+    table.pay(cost);
+    let timing = Timing::of(&table)?;
+    let row = free_row(&rows, table.id)?;
+    let mut aside = [0; PLAN_WORDS];
+    let written = write_plan(&table, &timing, &mut aside);
+    rows[row] = written.row;
+    fits(&rows, cores)?;
+    let plan = 0..written.words as usize;
+    words[plan.clone()].copy_from_slice(&aside[plan]);
+    board[row] = written.row;
+    Ok(row as u64)
+}
+
 /// Refusal 26.
-fn allowed(cost: u64) -> Result<(), Refusal> {
+fn allowed_cost(cost: u64) -> Result<(), Refusal> {
     if cost > Table::LARGEST_COST {
         return Err(Rule::Cost.into());
     }

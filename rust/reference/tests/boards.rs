@@ -1,6 +1,6 @@
 //! The board's rules: order of refusals, soundness, rows used again.
 
-use reference::{admit, ask, ask_to_end, plan, withdraw, Answer, Row, PLAN_WORDS};
+use reference::{ask, ask_to_end, note, plan, withdraw, Answer, Row, PLAN_WORDS};
 
 const OLD: u64 = 0xA5A5;
 
@@ -41,11 +41,11 @@ fn full_board() -> [Row; 16] {
     std::array::from_fn(|at| row(at as u64 + 1))
 }
 
-/// Admits and checks that a refusal has touched nothing.
-fn admit_refusal(record: &[u8], lent: usize, board: &[Row]) -> Answer {
+/// Notes and checks that a refusal has touched nothing.
+fn note_refusal(record: &[u8], lent: usize, board: &[Row]) -> Answer {
     let mut words = vec![OLD; lent];
     let mut rows = board.to_vec();
-    let answer = admit(record, &mut words, &mut rows, 0);
+    let answer = note(record, &mut words, &mut rows, 0);
     assert_ne!(answer.refusal, 0);
     assert!(words.iter().all(|&word| word == OLD));
     assert_eq!(rows, board);
@@ -53,11 +53,11 @@ fn admit_refusal(record: &[u8], lent: usize, board: &[Row]) -> Answer {
 }
 
 #[test]
-fn admit_withdraw_and_admit_again() {
+fn note_withdraw_and_note_again() {
     let mut board = [Row::default(); 16];
     let mut words = [OLD; PLAN_WORDS];
     for at in 0..16 {
-        let answer = admit(&record(at + 1), &mut words, &mut board, 0);
+        let answer = note(&record(at + 1), &mut words, &mut board, 0);
         assert_eq!(answer, yes(u64::from(at)));
     }
     assert_eq!(board, full_board());
@@ -65,23 +65,23 @@ fn admit_withdraw_and_admit_again() {
     assert_eq!(withdraw(&mut board, 9), yes(8));
     assert_eq!(withdraw(&mut board, 4), yes(3));
     assert_eq!(withdraw(&mut board, 4), refused(14, 0));
-    assert_eq!(admit(&record(99), &mut words, &mut board, 0), yes(3));
-    assert_eq!(admit(&record(98), &mut words, &mut board, 0), yes(8));
+    assert_eq!(note(&record(99), &mut words, &mut board, 0), yes(3));
+    assert_eq!(note(&record(98), &mut words, &mut board, 0), yes(8));
     assert_eq!((board[3], board[8]), (row(99), row(98)));
 }
 
 #[test]
-fn order_of_an_admissions_refusals() {
+fn order_of_notings_refusals() {
     let full = full_board();
     let mut unsound = full;
     unsound[5].id = 1;
     let too_long = [1, 1, 4, 1, 5, 0];
-    assert_eq!(admit_refusal(&[], 386, &unsound), refused(16, 0));
-    assert_eq!(admit_refusal(&[], 387, &unsound), refused(17, 0));
-    assert_eq!(admit_refusal(&[1], 387, &full), refused(1, 1));
-    assert_eq!(admit_refusal(&too_long, 387, &full), refused(11, 0));
-    assert_eq!(admit_refusal(&record(1), 387, &full), refused(12, 0));
-    assert_eq!(admit_refusal(&record(99), 387, &full), refused(13, 0));
+    assert_eq!(note_refusal(&[], 386, &unsound), refused(16, 0));
+    assert_eq!(note_refusal(&[], 387, &unsound), refused(17, 0));
+    assert_eq!(note_refusal(&[1], 387, &full), refused(1, 1));
+    assert_eq!(note_refusal(&too_long, 387, &full), refused(11, 0));
+    assert_eq!(note_refusal(&record(1), 387, &full), refused(12, 0));
+    assert_eq!(note_refusal(&record(99), 387, &full), refused(13, 0));
 }
 
 #[test]
@@ -148,7 +148,7 @@ const INVERSE: u64 = 0xFFFE_FFFF_FEFF_FFFF;
 fn assert_unsound(mut board: [Row; 16]) {
     assert_eq!(ask(&board, 1), refused(17, 0), "{:?}", board[7]);
     assert_eq!(ask_to_end(&board, 1), refused(17, 0), "{:?}", board[7]);
-    assert_eq!(admit_refusal(&record(99), 387, &board), refused(17, 0));
+    assert_eq!(note_refusal(&record(99), 387, &board), refused(17, 0));
     let before = board;
     assert_eq!(withdraw(&mut board, 3), refused(17, 0));
     assert_eq!(board, before);

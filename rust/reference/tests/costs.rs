@@ -1,7 +1,7 @@
 //! The dispatch cost: an execution is what is written plus the cost, and a
 //! join pays nothing.
 
-use reference::{admit, ask, plan, Row, PLAN_WORDS};
+use reference::{ask, note, plan, Row, PLAN_WORDS};
 
 const OLD: u64 = 0xA5A5;
 const LISTED: [u8; 11] = [1, 3, 6, 3, 3, 0, 1, 0, 1, 1, 1];
@@ -14,7 +14,7 @@ fn planned(record: &[u8], cost: u64) -> Vec<u64> {
     words[..answer.value as usize].to_vec()
 }
 
-/// The refusal and its place, the same from planning and from admitting to an
+/// The refusal and its place, the same from planning and from noting on an
 /// empty board; nothing that was lent has changed.
 fn refusal(record: &[u8], cost: u64) -> (u64, u64) {
     let mut words = [OLD; PLAN_WORDS];
@@ -23,14 +23,14 @@ fn refusal(record: &[u8], cost: u64) -> (u64, u64) {
     assert_eq!(words, [OLD; PLAN_WORDS]);
     let refusal = (answer.refusal, answer.place);
     let free = [Row::default(); 16];
-    assert_eq!(admit_refusal(record, PLAN_WORDS, &free, cost), refusal);
+    assert_eq!(note_refusal(record, PLAN_WORDS, &free, cost), refusal);
     refusal
 }
 
-fn admit_refusal(record: &[u8], lent: usize, board: &[Row], cost: u64) -> (u64, u64) {
+fn note_refusal(record: &[u8], lent: usize, board: &[Row], cost: u64) -> (u64, u64) {
     let mut words = vec![OLD; lent];
     let mut rows = board.to_vec();
-    let answer = admit(record, &mut words, &mut rows, cost);
+    let answer = note(record, &mut words, &mut rows, cost);
     assert!(words.iter().all(|&word| word == OLD));
     assert_eq!(rows, board);
     (answer.refusal, answer.place)
@@ -250,9 +250,9 @@ fn the_cost_goes_before_all_else() {
         for (record, _) in RECORDS {
             assert_eq!(plan(record, &mut [], cost).refusal, 26);
             assert_eq!(refusal(record, cost), (26, 0));
-            assert_eq!(admit_refusal(record, 386, &unsound, cost), (26, 0));
+            assert_eq!(note_refusal(record, 386, &unsound, cost), (26, 0));
             for board in [&unsound, &full[1..], &full] {
-                assert_eq!(admit_refusal(record, 387, board, cost), (26, 0));
+                assert_eq!(note_refusal(record, 387, board, cost), (26, 0));
             }
         }
     }
@@ -262,13 +262,13 @@ fn the_cost_goes_before_all_else() {
 fn an_allowed_cost_changes_no_order() {
     let full = full_board();
     for (record, expected) in RECORDS {
-        assert_eq!(admit_refusal(record, 386, &full[1..], 255), (16, 0));
-        assert_eq!(admit_refusal(record, 387, &full[1..], 255), (17, 0));
-        assert_eq!(admit_refusal(record, 387, &full, 5), expected);
+        assert_eq!(note_refusal(record, 386, &full[1..], 255), (16, 0));
+        assert_eq!(note_refusal(record, 387, &full[1..], 255), (17, 0));
+        assert_eq!(note_refusal(record, 387, &full, 5), expected);
     }
     let new = [1, 99, 10, 1, 5, 0];
-    assert_eq!(admit_refusal(&new, 387, &full, 5), (13, 0));
-    assert_eq!(admit_refusal(&new, 387, &full, 6), (11, 0));
+    assert_eq!(note_refusal(&new, 387, &full, 5), (13, 0));
+    assert_eq!(note_refusal(&new, 387, &full, 6), (11, 0));
 }
 
 #[test]
@@ -277,7 +277,7 @@ fn each_task_stands_at_its_own_cost() {
     let mut words = [OLD; PLAN_WORDS];
     for (id, cost, density) in [(1, 0, 500_000), (2, 2, 700_000), (3, 5, 1_000_000)] {
         let at = usize::from(id) - 1;
-        let answer = admit(&[1, id, 10, 1, 5, 0], &mut words, &mut board, cost);
+        let answer = note(&[1, id, 10, 1, 5, 0], &mut words, &mut board, cost);
         assert_eq!((answer.refusal, answer.value), (0, at as u64));
         assert_eq!((board[at].sum, board[at].largest), (density, density));
         // One core bears the first alone, two cores the first two.

@@ -1,6 +1,6 @@
 //! Edition 2: nodes with execution 0, called joins, cost nothing.
 
-use reference::{admit, ask, plan, sheet, Answer, Row, PLAN_WORDS};
+use reference::{ask, note, plan, sheet, Answer, Row, PLAN_WORDS};
 use std::collections::BTreeSet;
 
 const OLD: u64 = 0xA5A5;
@@ -295,7 +295,7 @@ fn a_row_counts_joins_among_its_nodes() {
     let mut board = [Row::default(); 16];
     let mut words = [OLD; PLAN_WORDS];
     let three = record(2, 9, &chain(&[0, 3, 0]));
-    assert_eq!(admit(&three, &mut words, &mut board, 0), Answer::default());
+    assert_eq!(note(&three, &mut words, &mut board, 0), Answer::default());
     let row = Row {
         id: 7,
         nodes: 3,
@@ -310,16 +310,16 @@ fn a_row_counts_joins_among_its_nodes() {
 }
 
 #[test]
-fn where_21_stands_among_an_admissions_refusals() {
+fn where_21_stands_among_notings_refusals() {
     let joins = [2, 7, 9, 1, 0, 0];
     let task = [2, 7, 9, 1, 3, 0];
     let mut words = [OLD; PLAN_WORDS];
     let mut board = [Row::default(); 16];
-    admit(&task, &mut words, &mut board, 0);
+    note(&task, &mut words, &mut board, 0);
     // Before 12: the id stands.
-    assert_eq!(admit(&joins, &mut words, &mut board, 0), refused(21, 0));
+    assert_eq!(note(&joins, &mut words, &mut board, 0), refused(21, 0));
     board[1] = board[0];
-    assert_eq!(admit(&joins, &mut words, &mut board, 0), refused(17, 0));
+    assert_eq!(note(&joins, &mut words, &mut board, 0), refused(17, 0));
     let short = &mut words[1..];
-    assert_eq!(admit(&joins, short, &mut board, 0), refused(16, 0));
+    assert_eq!(note(&joins, short, &mut board, 0), refused(16, 0));
 }

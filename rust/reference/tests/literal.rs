@@ -2,7 +2,7 @@
 //! by closure, cuts from every start and finish, offsets by walking parents,
 //! a loop by leaving out nodes, an execution as what is written plus the cost.
 
-use reference::{admit, plan, Answer, Row, PLAN_WORDS};
+use reference::{note, plan, Answer, Row, PLAN_WORDS};
 use std::collections::BTreeSet;
 
 #[derive(Clone)]
@@ -324,19 +324,19 @@ fn row(task: &Task, words: &[u64]) -> Row {
 #[test]
 fn rows_of_random_tasks() {
     let mut random = Random(0xD1B5_4A32_D192_ED03);
-    let mut admitted = 0;
+    let mut noted = 0;
     for _ in 0..20_000 {
         let task = Task::random(&mut random);
         let mut board = [Row::default(); 16];
-        admit(&task.record(), &mut [0; PLAN_WORDS], &mut board, task.cost);
+        note(&task.record(), &mut [0; PLAN_WORDS], &mut board, task.cost);
         let mut expected = [Row::default(); 16];
         if let Ok(words) = literal(&task) {
-            admitted += 1;
+            noted += 1;
             expected[0] = row(&task, &words);
         }
         assert_eq!(board, expected);
     }
-    assert!(admitted > 5_000, "only {admitted} tasks were admitted");
+    assert!(noted > 5_000, "only {noted} tasks were noted");
 }
 
 #[test]

@@ -1,6 +1,6 @@
 //! Refusal 10: the node that a loop is named by, and the loop shown with it.
 
-use reference::{admit, plan, sheet, Answer, Row, PLAN_WORDS};
+use reference::{note, plan, sheet, Answer, Row, PLAN_WORDS};
 
 const OLD: u64 = 0xA5A5;
 
@@ -115,10 +115,10 @@ fn rings_of_all_nodes() {
 }
 
 #[test]
-fn admitting_shows_the_loop() {
+fn noting_shows_the_loop() {
     let record = record(&[vec![], vec![2], vec![1]]);
     let mut board = [Row::default(); 16];
-    let answer = admit(&record, &mut [OLD; PLAN_WORDS], &mut board, 0);
+    let answer = note(&record, &mut [OLD; PLAN_WORDS], &mut board, 0);
     assert_eq!(answer, looping(1, &[1, 2]));
     assert_eq!(board, [Row::default(); 16]);
 }

@@ -1,6 +1,6 @@
 //! The worked example of docs/SALES.md: three tasks on a board.
 
-use reference::{admit, ask, ask_to_end, withdraw, Answer, Row, PLAN_WORDS};
+use reference::{ask, ask_to_end, note, withdraw, Answer, Row, PLAN_WORDS};
 
 const CALLS: &[u8] = &[1, 1, 40, 2, 2, 0, 3, 1, 0];
 const PANEL: &[u8] = &[1, 2, 20, 1, 6, 0];
@@ -10,7 +10,7 @@ const FOUR: &[u8] = &[1, 9, 4, 4, 2, 0, 1, 1, 0, 1, 1, 0, 1, 1, 0];
 type Board = [Row; 16];
 
 fn put(board: &mut Board, record: &[u8], cost: u64) {
-    let answer = admit(record, &mut [0; PLAN_WORDS], board, cost);
+    let answer = note(record, &mut [0; PLAN_WORDS], board, cost);
     assert_eq!(answer.refusal, 0);
 }
 

@@ -1,7 +1,7 @@
 //! The verdict for steps that run to their end, and the three figures that a
 //! row has for it.
 
-use reference::{admit, ask, ask_to_end, withdraw, Answer, Row, PLAN_WORDS};
+use reference::{ask, ask_to_end, note, withdraw, Answer, Row, PLAN_WORDS};
 
 const LISTED: [u8; 11] = [1, 3, 6, 3, 3, 0, 1, 0, 1, 1, 1];
 
@@ -22,7 +22,7 @@ fn refused(refusal: u64) -> Answer {
 fn board_at(records: &[&[u8]], cost: u64) -> [Row; 16] {
     let mut board = [Row::default(); 16];
     for (at, record) in records.iter().enumerate() {
-        let answer = admit(record, &mut [0; PLAN_WORDS], &mut board, cost);
+        let answer = note(record, &mut [0; PLAN_WORDS], &mut board, cost);
         assert_eq!(answer, yes(at as u64));
     }
     board

@@ -1,6 +1,6 @@
 //! Document 01's worked tables, its listing and its slips.
 
-use reference::{admit, ask, plan, sheet, withdraw, Answer, Row, PLAN_WORDS};
+use reference::{ask, note, plan, sheet, withdraw, Answer, Row, PLAN_WORDS};
 
 const OLD: u64 = 0xA5A5;
 const FOUR: [u8; 15] = [1, 9, 4, 4, 2, 0, 1, 1, 0, 1, 1, 0, 1, 1, 0];
@@ -42,7 +42,7 @@ fn board_with(records: &[&[u8]]) -> [Row; 16] {
     let mut board = [Row::default(); 16];
     let mut words = [0; PLAN_WORDS];
     for (row, record) in records.iter().enumerate() {
-        assert_eq!(admit(record, &mut words, &mut board, 0), yes(row as u64));
+        assert_eq!(note(record, &mut words, &mut board, 0), yes(row as u64));
     }
     board
 }

@@ -1,4 +1,4 @@
--- `admissions::admission` meets its contract: 26 and 16 first, then 17, then the reading's refusal, then the table that was read, which planning
+-- `admissions::noting` meets its contract: 26 and 16 first, then 17, then the reading's refusal, then the table that was read, which planning
 -- can take.
 use mathlib.Core.Path.{_≡_, sym, ap, _∙_}
 use mathlib.Core.Logic.{⊎-elim}
@@ -16,10 +16,10 @@ use Rattle.plans.proofs.Tests.{ready, task-refused, task-read}
 use Rattle.boards.specs.Sound.{isSound}
 use Rattle.boards.proofs.Tests.{passed, failed}
 use Rattle.boards.proofs.Halves.{first-holds, first-fails}
-use Rattle.admissions.specs.Admission.{notAdmitted, entered, admission}
+use Rattle.admissions.specs.Admission.{notAdmitted, entered, noting}
 use Rattle.admissions.proofs.Tests.{refused-first, unsound, sound, leaves}
-use Rattle.admissions.proofs.admission.Statement.{statement}
-use Rattle.admissions.proofs.admission.Tie as tie
+use Rattle.admissions.proofs.noting.Statement.{statement}
+use Rattle.admissions.proofs.noting.Tie as tie
 
 -- what was handed in
 abbrev start : tie.After-before-reading → tie.Start
@@ -92,7 +92,7 @@ read-record-requires c κs = search needs
 abbrev tested : tie.After-read-record → tie.Joined1
 tested c = c .before .before
 
-going : (c : tie.After-read-record) → (let a = start (begun (tested c)) .args in admission (now (a .bytes)) (now (a .words)) (a .board .rows) (a .cost) ≡ onTask (notAdmitted (a .board .rows) (now (a .words))) (entered (a .board .rows) (now (a .words))) (now (a .bytes)) (a .cost))
+going : (c : tie.After-read-record) → (let a = start (begun (tested c)) .args in noting (now (a .bytes)) (now (a .words)) (a .board .rows) (a .cost) ≡ onTask (notAdmitted (a .board .rows) (now (a .words))) (entered (a .board .rows) (now (a .words))) (now (a .bytes)) (a .cost))
 going c =
     let i = tested c in
     let a = start (begun i) .args in
@@ -127,8 +127,8 @@ reading c = c .before .before
 read : (c : tie.After-enum-told3) → readingOf (now (start (begun (tested (reading c))) .args .bytes)) .outcome ≡ Accepted
 read c = ap (λ (r : Reading). r .outcome) (sym (reading c .read-record .ensures)) ∙ c .enum-told3 .given .1
 
-admit-table-requires : tie.Need-admit-table-requires
-admit-table-requires c κs =
+note-table-requires : tie.Need-note-table-requires
+note-table-requires c κs =
     let t = c .before in
     let i = tested (reading t) in
     let a = start (begun i) .args in
@@ -146,10 +146,10 @@ returns-4 c =
     let a = start (begun (tested d)) .args in
     let e = going d ∙ task-read (notAdmitted (a .board .rows) (now (a .words))) (entered (a .board .rows) (now (a .words))) (now (a .bytes)) (a .cost) (read t) in
     let s = ap (λ (r : Reading). onTable (notAdmitted (a .board .rows) (now (a .words))) (entered (a .board .rows) (now (a .words))) (costed (r .table) (a .cost))) (d .read-record .ensures) ∙ sym e in
-    rw s at (p .admit-table .ensures)
+    rw s at (p .note-table .ensures)
 
-pub admission-spec : {M : Type 1} → statement M
-admission-spec =
+pub noting-spec : {M : Type 1} → statement M
+noting-spec =
     tie.close
     (tie.spec
     before-reading-requires
@@ -169,6 +169,6 @@ admission-spec =
     answer-of-requires-2
     unchanged-requires-3
     returns-3
-    admit-table-requires
+    note-table-requires
     same-length
     returns-4)

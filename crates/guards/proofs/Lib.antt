@@ -1,0 +1,4 @@
+pub mod Guarding
+pub mod Copy
+pub mod Cases
+pub mod Keeping
