@@ -17,6 +17,7 @@ use Rattle.boards.specs.Sound.{between, isBare, isDense, isNew}
 use Rattle.boards.specs.Inner.Halves.{densitiesFit, densitiesSound}
 use Rattle.boards.proofs.Tests.{both-true, between-true, allTo-true}
 
+-- one row, for itself
 fit-sum-le : (r : Row) → densitiesFit r ≡ true → r .sum ≤ countMax * densityMax
 unfolding densitiesFit
 fit-sum-le r = pick-case (λ t. t ≡ true → r .sum ≤ countMax * densityMax) (isBare r) (λ b e. bare b) (λ b e. dense e)
@@ -34,6 +35,7 @@ fit-sum-le r = pick-case (λ t. t ≡ true → r .sum ≤ countMax * densityMax)
         le-trans (between-true (r .largest) (r .sum) (r .nodes * r .largest) (b .1) .1)
         (mul-le-mul (between-true 1 (r .nodes) countMax (a .0) .1) (between-true 1 (r .largest) densityMax (b .0) .1))
 
+-- each row of a board whose densities fit
 module _ (rows : List Row) (fit : densitiesSound rows ≡ true) where
   pub fit-row-le : (k : ℕ) → k < rowsMax → rowAt rows k .sum ≤ countMax * densityMax
   fit-row-le k h = fit-sum-le (rowAt rows k) (both-true (densitiesFit (rowAt rows k)) (isNew (λ i. rowAt rows i .id) k) (allTo-true rowsMax _ fit k h) .0)

@@ -71,7 +71,7 @@ module _ (rows : List Row) (words : List ℕ) (cores : ℕ) (t : TaskTable) {pla
       guarded-refused rows words cores (entered rows words t) (rw out n) ∙ out
 
   module _ (z : place .refusal ≡ 0) where
-    -- a place: the board with the task is asked, which is sound
+    -- a place: with the task in it the board is asked
     abbrev filled : Admission
     filled = record { change = record { at = freeAt rows; row = rowOf t; answer = place }; words = written t words }
 
@@ -81,6 +81,7 @@ module _ (rows : List Row) (words : List ℕ) (cores : ℕ) (t : TaskTable) {pla
     asked : guarded rows words cores (entered rows words t) ≡ pick (verdict (set rows (freeAt rows) (rowOf t)) cores) filled (notAdmitted rows words (refusal verdictNo 0))
     asked = rw (goes-in rows words t found z .0) (guarded-told rows words cores filled z)
 
+    -- and that board is sound
     pub beside-sound : Sound rows → Planned t → Sound (set rows (freeAt rows) (rowOf t))
     beside-sound s ok = let e = place-accepted rows (rowOf t) (rw found at z) .0 in rw e at (placed-sound rows (rowOf t) s (row-standing ok))
 
