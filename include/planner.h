@@ -1,10 +1,13 @@
-/* The planner's six calls. A call returns for every content of what it is lent; a refusal changes nothing. The caller
+/* The planner's seven calls. A call returns for every content of what it is lent; a refusal changes nothing. The caller
  * sees to the memory, in each call:
- *   - A length is 64 bits on every machine. It counts bytes of a record, words of a plan, rows of a board.
+ *   - A length is 64 bits on every machine. It counts bytes of a record, words of a plan, rows of a board, entries of a
+ *     list.
  *   - Each pointer is not NULL and valid for its length.
- *   - The words, the rows and the memory that the answer is returned in are aligned to 8 bytes. Compilers for 32-bit x86
- *     align uint64_t to 4 unless told otherwise (gcc and clang: -malign-double). A record may begin at any byte.
- *   - Nothing that is lent overlaps: record, words and board are apart, and the returned answer is apart from them.
+ *   - The words, the rows, the lists and the memory that the answer is returned in are aligned to 8 bytes. Compilers for
+ *     32-bit x86 align uint64_t to 4 unless told otherwise (gcc and clang: -malign-double). A record may begin at any
+ *     byte, and so may the bytes for one.
+ *   - Nothing that is lent overlaps: record, words and board are apart, so are the two lists and the bytes, and the
+ *     returned answer is apart from them.
  *   - No other thread uses what is lent meanwhile. */
 #ifndef PLANNER_H
 #define PLANNER_H
@@ -18,19 +21,24 @@
 /* The most words that a plan has; a smaller buffer is refused by 16. */
 #define PLANNER_WORDS 387
 
+/* The most bytes that a record has: into so many, every record can be written. */
+#define PLANNER_RECORD_BYTES 4361
+
 /* The rows of a board; a board of another length is refused by 17. */
 #define PLANNER_ROWS 16
 
 /* What a call answers. refusal 0: accepted, and value holds what the call returns. Otherwise refusal is the number of
  * the rule that was broken, value 0, and place where it was met: a byte of the record (for 1 the record's length), for 10
- * the smallest node that waits for itself, and 0 for 11 to 17, 20, 21 and 26. ring (since version 2) is for 10 the set of
- * nodes of one loop through that node, node k as bit k, from which none can be left out; with every other answer it is 0.
+ * the smallest node that waits for itself, for 19 the length of the bytes (0 where two lists differ), and 0 for 11 to 17,
+ * 20, 21 and 26. ring (since version 2) is for 10 the set of nodes of one loop through that node, node k as bit k, from
+ * which none can be left out; with every other answer it is 0.
  * Refusals: 1 the record ends too early; 2 a number's fourth byte has its top bit set; 3 the edition is neither 1 nor
  * 2; 4 id, 5 period, 6 node count, 7 execution (from 1 in edition 1, from 0 in edition 2) out of range; 8 a parent
  * count or parent out of range or order; 9 bytes follow the record; 10 a node waits for itself, over others or not; 11
  * the path is longer than the period; 12 the id stands already; 13 no row is free; 14 no task with this id stands; 15
- * no such number of cores; 16 too few words; 17 the board isn't sound; 18 a number isn't in its shortest form; 20 with
- * the task the verdict would be no; 21 all executions are 0; 26 the cost is above 255. */
+ * no such number of cores; 16 too few words; 17 the board isn't sound; 18 a number isn't in its shortest form; 19 two
+ * lists differ in length, or too few bytes; 20 with the task the verdict would be no; 21 all executions are 0; 26 the
+ * cost is above 255. */
 struct planner_answer {
     uint64_t refusal;
     uint64_t place;
@@ -91,5 +99,17 @@ struct planner_answer planner_ask(const struct planner_row *board, uint64_t boar
  * boards: each core is also charged the longest execution over the shortest deadline, in millionths rounded up, of all
  * nodes that stand. Values and refusals as planner_ask. */
 struct planner_answer planner_ask_to_end(const struct planner_row *board, uint64_t board_length, uint64_t cores);
+
+/* Writes the record of a task into bytes[0 .. value - 1]; bytes past these keep their content. Both lists have an entry
+ * for each node: executions its execution, parents the set of nodes that it waits for, node k as bit k. What is written
+ * is read back as the same task, and a record that was read is written again byte for byte.
+ * value: the number of bytes written. Refusals, in this order: 19 at 0 (the lists differ in length); as the record would
+ * meet its numbers from the left, each at the byte where that number would have stood, 3, 4, 5, 6 (lists of 0 entries, or
+ * of more than 64), then for each node 7, 8 at its parent count (more parents than there are nodes) and 8 at its first
+ * parent that is no node; 21; 19 at bytes_length (too few bytes). Loops and long paths are left to planning. */
+struct planner_answer planner_write_record(const uint64_t *executions, uint64_t executions_length,
+                                           const uint64_t *parents, uint64_t parents_length,
+                                           uint8_t *bytes, uint64_t bytes_length,
+                                           uint64_t edition, uint64_t id, uint64_t period);
 
 #endif

@@ -7,6 +7,7 @@ mod Board
 pub mod Note
 pub mod Withdraw
 pub mod Ask
+pub mod Write
 pub mod Admit
 pub mod Print
 pub mod Diagram

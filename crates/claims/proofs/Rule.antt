@@ -7,7 +7,7 @@ use Rattle.refusals.specs.declared.Refusal.{Refusal}
 use Rattle.refusals.specs.declared.Answer.{Answer}
 use Rattle.refusals.specs.Refusal.{refusal}
 use Rattle.refusals.specs.Answer.{accepted, refused}
-use Rattle.claims.specs.Rule.{Rule, rule, Decides, OnlyWhen}
+use Rattle.claims.specs.Rule.{Rule, ruleAt, rule, Decides, OnlyWhen}
 
 -- one number at most
 abbrev pub OneValue : (ℕ → Type 0) → Type 0
@@ -23,8 +23,11 @@ Singles [] = Unit {0}
 Singles (first ∷ later) = Single first × Singles later
 
 -- a line of the table does
+pub single-at : (number place : ℕ) (given : Type 0) → Single (ruleAt number place given)
+single-at number place given = record { one = λ r s p q. p .1 ∙ sym (q .1); bare = λ r p n. ap (λ (x : Refusal). x .ring) (p .1) }
+
 pub single : (number : ℕ) (given : Type 0) → Single (rule number given)
-single number given = record { one = λ r s p q. p .1 ∙ sym (q .1); bare = λ r p n. ap (λ (x : Refusal). x .ring) (p .1) }
+single number given = single-at number 0 given
 
 -- the rules decide one answer
 one-decision : (rules : List Rule) {value : ℕ → Type 0} → Singles rules → OneValue value → (a b : Answer) → Decides rules value a → Decides rules value b → a ≡ b

@@ -6,6 +6,7 @@ pub mod Board
 pub mod Note
 pub mod Withdraw
 pub mod Ask
+pub mod Write
 pub mod ToEnd
 pub mod Admit
 pub mod Print

@@ -6,6 +6,7 @@ use Rattle.claims.specs.Admit.{OfAdmitting}
 use Rattle.claims.specs.Withdraw.{OfWithdrawing}
 use Rattle.claims.specs.Ask.{OfAsking}
 use Rattle.claims.specs.ToEnd.{OfAskingToEnd}
+use Rattle.claims.specs.Write.{OfWriting}
 use Rattle.claims.specs.Print.{OfPrinting}
 use Rattle.claims.specs.Diagram.{TablesTimed}
 use Rattle.claims.specs.Cost.{OfCost}
@@ -24,6 +25,7 @@ pub record Promises : Type 0 where
   pub withdrawing : OfWithdrawing
   pub asking : OfAsking
   pub asking-to-end : OfAskingToEnd
+  pub writing : OfWriting
   pub printing : OfPrinting
   -- every loop-free table's starts, cuts and offsets are those of document 01
   pub tables-timed : TablesTimed

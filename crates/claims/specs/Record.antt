@@ -17,8 +17,10 @@ use Rattle.records.specs.Nodes.{tableRead}
 use Rattle.records.specs.Reading.{readingOf}
 use Rattle.numbers.specs.Number.{recordMore}
 use Rattle.numbers.specs.Form.{Long, Padded}
-use Rattle.records.specs.Expected.{Due, Expects, Refuses, Spells}
+use Rattle.numbers.specs.Shortest.{Bytes}
+use Rattle.records.specs.Expected.{Due, Expects, Refuses}
 use Rattle.records.specs.Expected.Next.{number, nothing}
+use Rattle.writers.specs.Record.{Spells}
 use Rattle.rings.specs.Ring.{ring}
 use Rattle.rings.specs.Round.{Smallest, Round}
 use Rattle.plans.specs.Diagram.{path}
@@ -63,8 +65,8 @@ pub record OfReading : Type 0 where
   pub padded : (bytes : List ℕ) (place : ℕ) → (readingOf bytes .outcome ≡ Refused (refusal 18 place)) ↔ Faulty (Padded recordMore) bytes place
   -- 21 exactly where no node runs
   pub none-runs : (bytes : List ℕ) (place : ℕ) → (readingOf bytes .outcome ≡ Refused (refusal 21 place)) ↔ NoneRuns bytes place
-  -- it reads a table exactly from a record whose numbers are all fine and spell it, and of which some node runs
-  pub reads : (bytes : List ℕ) (t : TaskTable) → (readingOf bytes ≡ tableRead t) ↔ Spells bytes t
+  -- it reads a table exactly from the record that spells it: the bytes that are written of a table in range
+  pub reads : (bytes : List ℕ) (t : TaskTable) → Bytes bytes → (readingOf bytes ≡ tableRead t) ↔ Spells bytes t
   -- its refusals are its own numbers, at a byte of the record or at its end
   pub own : (bytes : List ℕ) (number place : ℕ) → Refuses bytes number place → (isReaders number ≡ true) × (place ≤ length bytes)
   -- "and with them, from any reader of a table, a table that is all zeros"

@@ -13,9 +13,13 @@ use Rattle.refusals.specs.Answer.{accepted, refused}
 abbrev pub Rule : Type 1
 Rule = Refusal → Type 0
 
--- a line of the table whose place is 0: its number, and "given when"
+-- a line of the table: its number, its place, and "given when"
+abbrev pub ruleAt : (number place : ℕ) → Type 0 → Rule
+ruleAt number place given r = given × (r ≡ refusal number place)
+
+-- most have place 0
 abbrev pub rule : ℕ → Type 0 → Rule
-rule number given r = given × (r ≡ refusal number 0)
+rule number given = ruleAt number 0 given
 
 -- what a list of rules decides: the first that gives a refusal refuses by it; where none does the call is accepted with its value
 abbrev pub Decides : List Rule → (ℕ → Type 0) → Answer → Type 0

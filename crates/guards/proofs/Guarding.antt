@@ -31,7 +31,7 @@ use Rattle.boards.specs.Inner.Place.{toldPlace}
 use Rattle.boards.proofs.Keeping.{others-kept, row-written, place-free, placed-sound}
 use Rattle.admissions.specs.Admission.{Admission, rowOf, notAdmitted, entered}
 use Rattle.guards.specs.Guarded.{guarded, guardedEntry, admission}
-use Rattle.guards.specs.Inner.InOrder.{inOrder}
+use Rattle.refusals.specs.InOrder.{inOrder}
 use Rattle.admissions.proofs.Place.{place-accepted}
 use Rattle.admissions.proofs.Row.{row-standing}
 use Rattle.admissions.proofs.Tests.{stays-out, goes-in}
@@ -109,11 +109,6 @@ module _ {A : Type 0} (refuse : Refusal → A) (go : A) where
   in-turn Accepted Accepted c = refl
   in-turn Accepted (Refused r) c = refl
   in-turn (Refused r) b c = refl
-
-pub all-accepted : (a b c : Outcome) → inOrder a b c ≡ Accepted → (a ≡ Accepted) × (b ≡ Accepted) × (c ≡ Accepted)
-all-accepted Accepted Accepted c e = (refl, refl, e)
-all-accepted Accepted (Refused r) c e = absurd (let z : _≡_ {A = ℕ} 0 1 = cc in omega arith)
-all-accepted (Refused r) b c e = absurd (let z : _≡_ {A = ℕ} 0 1 = cc in omega arith)
 
 pub admission-ordered : (bytes words : List ℕ) (rows : List Row) (cores cost : ℕ)
     → admission bytes words rows cores cost ≡ onOutcome (notAdmitted rows words) (onTable (notAdmitted rows words) (guardedEntry rows words cores) (taskOf bytes cost))

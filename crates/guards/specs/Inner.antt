@@ -1,2 +1,1 @@
-pub mod InOrder
 pub mod Bounds

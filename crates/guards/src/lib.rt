@@ -30,20 +30,6 @@ ghost use Rattle.boards.specs.Inner.Load.{Tallied};
 ghost use Rattle.admissions.specs.Admission.{notAdmitted};
 ghost use Rattle.guards.specs.Guarded.{guardedEntry, admission};
 ghost use Rattle.guards.specs.Inner.Bounds.{sumsMax, Bounded};
-ghost use Rattle.guards.specs.Inner.InOrder.{inOrder};
-
-// The first refusal of three rules' outcomes.
-fn in_order(first: Outcome, second: Outcome, third: Outcome) -> Outcome
-    ensures { λ r. ⌜ r ≡ inOrder first second third ⌝ }
-{
-    let Outcome::Accepted = first else {
-        return first;
-    };
-    let Outcome::Accepted = second else {
-        return second;
-    };
-    third
-}
 
 // S and M with one more row: a free row has 0 for both, so the task's own are put beside them.
 fn loaded(load: Load, row: Row) -> Load
@@ -136,7 +122,7 @@ pub fn admission(bytes: &[u8], words: &mut [u64], board: Board, cores: u64, cost
     let first = plans::before_reading(words.len(), cost);
     let asking = boards::before_asking(load.sound, cores);
     let read = reading.outcome;
-    let outcome = in_order(first, asking, read);
+    let outcome = refusals::in_order(first, asking, read);
     let Outcome::Accepted = outcome else {
         return boards::unchanged(board, refusals::answer_of(outcome));
     };

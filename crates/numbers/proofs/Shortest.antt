@@ -13,7 +13,7 @@ use Rattle.plain.specs.Pick.{pick}
 use Rattle.numbers.specs.declared.Number.the-variants.{Value}
 use Rattle.numbers.specs.Number.{number}
 use Rattle.numbers.specs.Form.{Form, Whole}
-use Rattle.numbers.specs.Inner.Shortest.{Bytes, shortest}
+use Rattle.numbers.specs.Shortest.{Bytes, shortest}
 use Rattle.numbers.specs.Form.Form.{sole, first}
 use Rattle.numbers.proofs.Forms.{form-some, read-whole}
 
@@ -51,3 +51,33 @@ only-form more s t v n m p q e f =
     let a = read-whole more s v n e in let b = read-whole more t v m f in
     let x = form-shortest more p (a .0) (a .1) in let y = form-shortest more q (b .0) (b .1) in
     (x .0 ∙ sym (y .0), x .1 ∙ sym (y .1))
+
+-- written from the front: a value below 128 is its last byte, any other has a byte more
+pub shortest-last : (more v : ℕ) → v < 128 → shortest more v ≡ v ∷ []
+unfolding shortest
+shortest-last zero v h = refl
+shortest-last (suc more) v h = rw (lt-ltb v 128 h)
+
+pub shortest-next : (more v : ℕ) → 128 ≤ v → v < 128 ^ suc more →
+    (m : ℕ) × (shortest more v ≡ (128 + v % 128) ∷ shortest m (v / 128)) × (v / 128 < 128 ^ suc m)
+unfolding shortest
+shortest-next zero v l h = absurd (omega arith)
+shortest-next (suc more) v l h = (more, rw (le-ltb v 128 l), omega (arith, pow-succ' 128 (suc more)))
+
+-- room for more groups changes nothing
+pub shortest-fewer : (more room v : ℕ) → v < 128 ^ suc more → more ≤ room → shortest room v ≡ shortest more v
+unfolding shortest
+shortest-fewer zero room v h l = shortest-last room v h
+shortest-fewer (suc more) zero v h l = absurd (omega arith)
+shortest-fewer (suc more) (suc room) v h l =
+    ap (λ (w : List ℕ). pick (ltb v 128) (v ∷ []) ((128 + v % 128) ∷ w)) (shortest-fewer more room (v / 128) (omega (arith, pow-succ' 128 (suc more))) (le-of-suc-le-suc l))
+
+-- and no form has more
+pub shortest-length : (more v : ℕ) → length (shortest more v) ≤ suc more
+unfolding shortest
+shortest-length zero v = omega arith
+shortest-length (suc more) v = by (shortest-length more (v / 128)) (ltb v 128)
+  where
+    by : length (shortest more (v / 128)) ≤ suc more → (t : Bool) → length (pick t (v ∷ []) ((128 + v % 128) ∷ shortest more (v / 128))) ≤ suc (suc more)
+    by ih true = omega arith
+    by ih false = suc-le-suc ih

@@ -1,1 +1,1 @@
-pub mod Shortest
+pub mod Word

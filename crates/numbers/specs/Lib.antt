@@ -1,3 +1,4 @@
 pub mod Number
 pub mod Form
+pub mod Shortest
 pub mod Inner

@@ -1,8 +1,12 @@
 // Numbers in groups of seven bits, lowest group first.
 ghost use mathlib.Core.Path.{_≡_};
-ghost use Prim.Native.Nat.{ℕ, _≤_};
+ghost use Prim.Native.Nat.{ℕ, _+_, _≤_};
 ghost use mathlib.Core.List.{List};
+ghost use lib.ListN.{length};
+ghost use lib.Seq.{sets};
 ghost use Rattle.numbers.specs.Number.{before, number, recordMore};
+ghost use Rattle.numbers.specs.Shortest.{shortest};
+ghost use Rattle.numbers.specs.Inner.Word.{wordMore};
 
 // A number with the bytes it takes; or its fault. A padded number has its value and length all the same.
 pub enum Number {
@@ -115,4 +119,34 @@ pub fn read_number(rest: &[u8]) -> Number
         return first;
     };
     read_long(rest)
+}
+
+// How many bytes a word takes in shortest form.
+pub fn length_of(value: u64) -> usize
+    ensures { λ r. ⌜ r ≡ length (shortest wordMore value) ⌝ }
+{
+    let mut rest = value;
+    let mut length: usize = 1;
+    while 128 <= rest {
+        rest = rest / 128;
+        length += 1;
+    }
+    length
+}
+
+// Writes a word in shortest form at a place, and tells the place after it.
+pub fn write_number(bytes: &mut [u8], from: usize, value: u64) -> usize
+    requires { ⌜ from + length (shortest wordMore value) ≤ length (now bytes) ⌝ }
+    ensures { λ r. ⌜ r ≡ from + length (shortest wordMore value) ⌝ }
+    ensures { λ _. ⌜ now (bytes .exit) ≡ sets (now (bytes .entry)) from (shortest wordMore value) ⌝ }
+{
+    let mut left = value;
+    let mut at = from;
+    while 128 <= left {
+        bytes[at] = (128 + left % 128) as u8;
+        left = left / 128;
+        at += 1;
+    }
+    bytes[at] = (left % 128) as u8;
+    at + 1
 }

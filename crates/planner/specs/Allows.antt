@@ -5,6 +5,7 @@ use Prim.Native.Nat.{ℕ}
 use Rattle.refusals.specs.After.{After}
 use Rattle.boards.specs.declared.Row.{Row}
 use Rattle.plans.specs.Calls.{planCall}
+use Rattle.writers.specs.Writing.{writeCall}
 use Rattle.planner.specs.Calls.{Lent, noteCall, admitCall, withdrawCall, askCall, askToEndCall}
 
 -- planning: its answer, and the words after it
@@ -30,3 +31,7 @@ AskAllows rows cores after = after ≡ askCall rows cores
 -- asking to the end: likewise
 abbrev pub AskToEndAllows : (rows : List Row) (cores : ℕ) → After (List Row) → Type 0
 AskToEndAllows rows cores after = after ≡ askToEndCall rows cores
+
+-- writing a record: its answer, and the bytes after it
+abbrev pub WriteAllows : (executions parents bytes : List ℕ) (edition id period : ℕ) → After (List ℕ) → Type 0
+WriteAllows executions parents bytes edition id period after = after ≡ writeCall executions parents bytes edition id period

@@ -1,4 +1,5 @@
--- Each public call on a board as one rule, from what it is lent to what it answers and leaves behind. Planning, which takes no board, is `planCall` of plans.
+-- Each public call on a board as one rule, from what it is lent to what it answers and leaves behind. Planning and writing, which take no board, are `planCall` of plans
+-- and `writeCall` of writers.
 use mathlib.Core.List.{List}
 use Prim.Native.Nat.{ℕ}
 use Rattle.refusals.specs.After.{After}

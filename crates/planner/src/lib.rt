@@ -9,7 +9,7 @@ ghost use Prim.Native.Nat.{_<_};
 ghost use lib.ListN.{length};
 ghost use Rattle.boards.specs.Row.{rowsMax};
 ghost use Rattle.boards.specs.Change.{changed};
-ghost use Rattle.planner.specs.Allows.{PlanAllows, NoteAllows, AdmitAllows, WithdrawAllows, AskAllows, AskToEndAllows};
+ghost use Rattle.planner.specs.Allows.{PlanAllows, NoteAllows, AdmitAllows, WithdrawAllows, AskAllows, AskToEndAllows, WriteAllows};
 
 // The lent rows, by value.
 fn rows_of(board: &[Row]) -> Board
@@ -110,4 +110,19 @@ pub extern "C" fn planner_ask_to_end(board: &[Row], cores: u64) -> Answer
         return boards::unsound();
     }
     overheads::asked_to_end(rows_of(board), cores)
+}
+
+// Writes the record of a task from its executions and its parent sets, one of each for a node; the value is the number of bytes.
+#[no_mangle]
+pub extern "C" fn planner_write_record(
+    executions: &[u64],
+    parents: &[u64],
+    bytes: &mut [u8],
+    edition: u64,
+    id: u64,
+    period: u64,
+) -> Answer
+    ensures { λ r. ⌜ WriteAllows (now (executions .entry)) (now (parents .entry)) (now (bytes .entry)) edition id period (record { answer = r; lent = now (bytes .exit) }) ⌝ }
+{
+    writers::write_record(executions, parents, bytes, edition, id, period)
 }

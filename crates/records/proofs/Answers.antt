@@ -27,7 +27,8 @@ use Rattle.numbers.proofs.Cases.{clash}
 use Rattle.records.specs.declared.Reading.{Reading}
 use Rattle.records.specs.Nodes.{withNode}
 use Rattle.records.specs.Reading.{headed, readingOf}
-use Rattle.records.specs.Expected.{Due, range, Next, nodeFrom, after, Expects, Spells}
+use Rattle.records.specs.Expected.{Due, range, Next, nodeFrom, after, Expects}
+use Rattle.records.specs.Inner.Spelt.{Spelt}
 use Rattle.records.specs.Expected.Due.{edition, id, period, count, execution, parentCount, parent}
 use Rattle.records.specs.Expected.Next.{number, nothing}
 use Rattle.records.specs.Expected.Expects.{begin, on}
@@ -152,7 +153,7 @@ unfolding Held
 whole-table e = held e
 
 -- the table that a record spells is in range
-pub spelt-range : {s : List ℕ} {t : TaskTable} → Spells s t → InRange t
+pub spelt-range : {s : List ℕ} {t : TaskTable} → Spelt s t → InRange t
 spelt-range (e, runs) = filling-all _ runs (whole-table e)
 
 -- and where all executions are 0, it is of edition 2: in edition 1 the first is above 0

@@ -34,7 +34,8 @@ use Rattle.records.specs.Ranged.{stepOf, whole, ranged}
 use Rattle.records.specs.Parents.{parents, parentSet}
 use Rattle.records.specs.Nodes.{tableRead, noTable, withNode, nothingFollows, nodes}
 use Rattle.records.specs.Reading.{headed, readingOf}
-use Rattle.records.specs.Expected.{Due, range, Next, nodeFrom, parentFrom, after, Expects, Refuses, Spells}
+use Rattle.records.specs.Expected.{Due, range, Next, nodeFrom, parentFrom, after, Expects, Refuses}
+use Rattle.records.specs.Inner.Spelt.{Spelt}
 use Rattle.records.specs.Expected.Due.{edition, id, period, count, execution, parentCount, parent}
 use Rattle.records.specs.Expected.Next.{number, nothing}
 use Rattle.records.specs.Expected.Expects.{begin, on}
@@ -145,7 +146,7 @@ module _ (s : List ℕ) where
   rule-refused (follow {place = at} {t = t} e h) = reached e ∙ some-follow t s at h
   rule-refused (none-runs {t = t} e z) = reached e ∙ none-run t s (length s) (le-refl (length s)) (zero-all (t .execution) (t .count) z)
 
-  pub spelt-read : {t : TaskTable} → Spells s t → readingOf s ≡ tableRead t
+  pub spelt-read : {t : TaskTable} → Spelt s t → readingOf s ≡ tableRead t
   unfolding onward
   spelt-read {t} (e, runs) = reached e ∙ some-run t s (length s) (le-refl (length s)) (runs-some (t .execution) (t .count) (runs .0) (runs .1) (runs .2))
 
@@ -157,7 +158,7 @@ module _ (s : List ℕ) where
   -- what an input comes to
   pub data Comes : Type 0 where
     refuses : {k place : ℕ} → Refuses s k place → Comes
-    spells : {t : TaskTable} → Spells s t → Comes
+    spells : {t : TaskTable} → Spelt s t → Comes
 
   -- what is expected at a place is there, and then `again` goes on after it; or this is the end
   comes-at : (at : ℕ) (next : Next) → Expects s at next → ((later : ℕ) (next : Next) → at < later → Expects s later next → Comes) → Comes
@@ -205,10 +206,10 @@ module _ (s : List ℕ) where
           let d : refusal k place ≡ r = cc in subst ByRule d (f, refl)
       by (spells f) = clash (let e = ap (λ (x : Reading). x .outcome) (sym (spelt-read f)) ∙ q in cc)
 
-  pub read-spelt : (t : TaskTable) → readingOf s ≡ tableRead t → Spells s t
+  pub read-spelt : (t : TaskTable) → readingOf s ≡ tableRead t → Spelt s t
   read-spelt t q = by comes
     where
-      by : Comes → Spells s t
+      by : Comes → Spelt s t
       by (refuses f) = clash (let e = ap (λ (x : Reading). x .outcome) (sym (rule-refused f) ∙ q) in cc)
       by (spells {t = u} f) = let e : u ≡ t = ap (λ (x : Reading). x .table) (sym (spelt-read f) ∙ q) in rw e at f
 

@@ -1,2 +1,2 @@
 pub mod Two
-pub mod Written
+pub mod Spelt

@@ -73,6 +73,10 @@ unsoundBoard = 17
 abbrev pub notShortest : ℕ
 notShortest = 18
 
+-- the lists differ in length; or the lent buffer is too short
+abbrev pub wrongLength : ℕ
+wrongLength = 19
+
 -- the verdict would be no
 abbrev pub verdictNo : ℕ
 verdictNo = 20

@@ -1,8 +1,9 @@
 // Document 01's refusals: a number that says which rule was broken, the place that it is told with, and beside 10 the loop.
 ghost use mathlib.Core.Path.{_≡_};
 ghost use Rattle.refusals.specs.Refusal.{refusal, looped, refusalOf};
+ghost use Rattle.refusals.specs.InOrder.{inOrder};
 ghost use Rattle.refusals.specs.Answer.{accepted, refused, answerOf};
-ghost use Rattle.refusals.specs.Numbers.{ended, tooLong, badEdition, badId, badPeriod, badCount, badExecution, badParent, bytesFollow, loop, longPath, idStands, boardFull, notStanding, badCores, fewWords, unsoundBoard, notShortest, verdictNo, noneRuns, highCost};
+ghost use Rattle.refusals.specs.Numbers.{ended, tooLong, badEdition, badId, badPeriod, badCount, badExecution, badParent, bytesFollow, loop, longPath, idStands, boardFull, notStanding, badCores, fewWords, unsoundBoard, notShortest, wrongLength, verdictNo, noneRuns, highCost};
 
 // A number of the table; a place: a byte of the input, for 10 a node, else 0; for 10 the nodes of a loop, else none.
 pub struct Refusal {
@@ -47,6 +48,8 @@ impl Refusal {
     pub const UNSOUND_BOARD: u64 = 17;
 
     pub const NOT_SHORTEST: u64 = 18;
+
+    pub const WRONG_LENGTH: u64 = 19;
 
     pub const VERDICT_NO: u64 = 20;
 
@@ -137,6 +140,19 @@ pub fn answer_of(outcome: Outcome) -> Answer
     }
 }
 
+// The first refusal of three rules' outcomes.
+pub fn in_order(first: Outcome, second: Outcome, third: Outcome) -> Outcome
+    ensures { λ r. ⌜ r ≡ inOrder first second third ⌝ }
+{
+    let Outcome::Accepted = first else {
+        return first;
+    };
+    let Outcome::Accepted = second else {
+        return second;
+    };
+    third
+}
+
 // Each constant is the number that specs/ gives the name.
 pub fn constants_named()
     ensures { λ _. do ⌜ (← ⟦Refusal::ENDED⟧ .entry) ≡ ended ⌝ }
@@ -157,6 +173,7 @@ pub fn constants_named()
     ensures { λ _. do ⌜ (← ⟦Refusal::FEW_WORDS⟧ .entry) ≡ fewWords ⌝ }
     ensures { λ _. do ⌜ (← ⟦Refusal::UNSOUND_BOARD⟧ .entry) ≡ unsoundBoard ⌝ }
     ensures { λ _. do ⌜ (← ⟦Refusal::NOT_SHORTEST⟧ .entry) ≡ notShortest ⌝ }
+    ensures { λ _. do ⌜ (← ⟦Refusal::WRONG_LENGTH⟧ .entry) ≡ wrongLength ⌝ }
     ensures { λ _. do ⌜ (← ⟦Refusal::VERDICT_NO⟧ .entry) ≡ verdictNo ⌝ }
     ensures { λ _. do ⌜ (← ⟦Refusal::NONE_RUNS⟧ .entry) ≡ noneRuns ⌝ }
     ensures { λ _. do ⌜ (← ⟦Refusal::HIGH_COST⟧ .entry) ≡ highCost ⌝ }

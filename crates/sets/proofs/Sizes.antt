@@ -11,7 +11,7 @@ use lib.ListN.{length, length-append}
 use Rattle.plain.specs.Sums.{sumTo}
 use Rattle.sets.specs.Member.{bit, Member}
 use Rattle.sets.specs.Size.{sizeTo}
-use Rattle.sets.specs.Inner.Members.{only, members}
+use Rattle.sets.specs.Members.{only, members}
 use Rattle.sets.proofs.Bits.{bit-le, bit-zero, mem-or, put-other, put-same}
 
 size-step : (d s : ℕ) → sizeTo (suc d) s ≡ s % 2 + sizeTo d (s / 2)

@@ -8,8 +8,8 @@ use native.Mathlib.Omega.{arith}
 use lib.Bits.{bitAnd, and-le-r}
 use lib.Count.{trailingZeros, under}
 use Rattle.sets.specs.Member.{bit, Member}
-use Rattle.sets.specs.Inner.Members.{only, members}
-use Rattle.sets.proofs.Bits.{bit-le, bit-out-same, bit-out-other, not-mem, low-clear}
+use Rattle.sets.specs.Members.{only, members}
+use Rattle.sets.proofs.Bits.{bit-zero, bit-le, bit-out-same, bit-out-other, not-mem, low-clear}
 
 -- the lowest member
 pub lowest-mem : (d s : ℕ) → 0 < s → s < 2 ^ d → Member (trailingZeros d s) s
@@ -77,6 +77,9 @@ members-none : (d s : ℕ) → ((k : ℕ) → k < d → bit k s ≡ 0) → membe
 unfolding members
 members-none zero s f = refl
 members-none (suc d) s f = rw (f d (le-refl (suc d)), members-none d s (λ k h. f k (omega arith)))
+
+pub no-members : (d : ℕ) → members d 0 ≡ []
+no-members d = members-none d 0 (λ k h. bit-zero k)
 
 pub members-out : (d s p : ℕ) → p < d → Member p s → ((k : ℕ) → k < p → bit k s ≡ 0) → members d s ≡ p ∷ members d (s - 2 ^ p)
 unfolding members

@@ -1,13 +1,17 @@
 -- Words of nodes: the members of `a & !s` are those of a that s lacks, and the set of all nodes below n is the word of n ones.
-use mathlib.Core.Path.{_≡_, refl, ap, _∙_}
+use mathlib.Core.Path.{_≡_, refl, sym, ap, _∙_}
 use mathlib.Core.Logic.{⊎-elim}
-use Prim.Native.Nat.{ℕ, zero, suc, _+_, _-_, _^_, _<_}
-use native.Mathlib.Nat.{pow-suc, one-mul}
+use Prim.Native.Nat.{ℕ, zero, suc, _+_, _-_, _^_, _≤_, _<_}
+use native.Mathlib.Nat.{pow-suc, one-mul, eq-or-lt-of-le, le-of-suc-le-suc}
 use native.Mathlib.Omega.{arith}
 use lib.Bits.{bitAnd}
+use Rattle.plain.specs.Sums.{sumTo}
 use Rattle.sets.specs.Member.{bit, Member}
 use Rattle.sets.specs.Rule.{setOf}
+use Rattle.sets.specs.Size.{sizeTo}
 use Rattle.sets.proofs.Bits.{bit-le, bit-zero, bit-and, bit-not, mem-or, not-mem}
+use Rattle.sets.proofs.Sizes.{size-same}
+use Rattle.sets.proofs.Rule.{bit-past, bit-set}
 
 -- a member that s lacks
 pub missing : (a s k : ℕ) → k < 64 → s < 2 ^ 64 → Member k (bitAnd a (2 ^ 64 - 1 - s)) → (Member k a) × (bit k s ≡ 0)
@@ -31,3 +35,12 @@ pub all-word : (n : ℕ) → setOf n (λ k. 1) + 1 ≡ 2 ^ n
 unfolding setOf
 all-word zero = refl
 all-word (suc n) = let ih = all-word n in let a = one-mul (2 ^ n) in rw (pow-suc 2 n) (omega arith)
+
+-- as many members of s are among them as s has below n
+pub size-under : (d n s : ℕ) → n ≤ d → sizeTo d (bitAnd s (setOf n (λ k. 1))) ≡ sizeTo n s
+unfolding sizeTo sumTo
+size-under zero n s h = let e : n ≡ 0 = omega arith in rw e
+size-under (suc d) n s h = ⊎-elim
+    (λ (q : n ≡ suc d). size-same (suc d) _ s (λ k l. let e = bit-and k s (setOf n (λ k. 1)) in let f = bit-set (λ k. 1) (λ k. omega arith) n k (rw q l) in let b = bit-le k s in omega arith) ∙ ap (λ (m : ℕ). sizeTo m s) (sym q))
+    (λ (q : n < suc d). let e = bit-and d s (setOf n (λ k. 1)) in let f = bit-past (λ k. 1) (λ k. omega arith) n d (le-of-suc-le-suc q) in let ih = size-under d n s (le-of-suc-le-suc q) in omega arith)
+    (eq-or-lt-of-le h)

@@ -1,4 +1,5 @@
 pub mod Member
+pub mod Members
 pub mod Size
 pub mod Greatest
 pub mod Rule

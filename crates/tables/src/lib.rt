@@ -2,6 +2,7 @@
 ghost use mathlib.Core.Path.{_≡_};
 ghost use mathlib.Core.List.{map};
 ghost use Prim.Native.Nat.{ℕ, _≤_};
+ghost use lib.ListN.{length};
 ghost use Rattle.plain.specs.At.{at};
 ghost use Rattle.tables.specs.Limits.{editionMax, idMax, periodMax, countMax, executionMax, leastExecution, costMax, runMax, million};
 ghost use Rattle.tables.specs.Table.{emptyTable};
@@ -58,9 +59,9 @@ pub fn least_execution(edition: u64) -> u64
     0
 }
 
-// Whether all of n executions are 0.
-pub fn all_zero(executions: &[u64; 64], n: usize) -> bool
-    requires { ⌜ n ≤ countMax ⌝ }
+// Whether the first n executions are all 0.
+pub fn all_zero(executions: &[u64], n: usize) -> bool
+    requires { ⌜ n ≤ length (now executions) ⌝ }
     ensures { λ r. ⌜ r ≡ allZero (now (executions .entry)) n ⌝ }
 {
     let mut v: usize = 0;

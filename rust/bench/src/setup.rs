@@ -76,6 +76,15 @@ fn task(parents: Vec<Vec<u64>>, executions: impl Iterator<Item = u64>, id: u64) 
     }
 }
 
+/// The bytes of the longest record.
+pub const LONGEST: usize = 4_361;
+
+/// The two lists of a task of 64 nodes.
+pub fn lists(task: &Task) -> [Aligned<[u64; 64]>; 2] {
+    let (executions, parents) = task.lists();
+    [executions, parents].map(|list| Aligned(list.try_into().expect("64 nodes")))
+}
+
 /// The largest cost; no path gets too long by it.
 pub const COST: u64 = 255;
 

@@ -2,8 +2,8 @@
 
 use crate::clock::pair;
 use crate::setup::{
-    board, different, half_joins, record, scattered, Aligned, CHAIN, CORES, COST, DIFFERENT, LOOSE,
-    RING, SHAPES,
+    board, different, half_joins, lists, record, scattered, Aligned, CHAIN, CORES, COST, DIFFERENT,
+    LONGEST, LOOSE, RING, SHAPES,
 };
 use ffi::task::Task;
 use reference::{Answer, Row, PLAN_WORDS};
@@ -13,7 +13,8 @@ pub fn print() {
     let copy = copy_time();
     println!("nanoseconds for one call, best of the batches' medians");
     println!("words buffer: 387 words, zeroed before the first call, then reused");
-    println!("words and boards start on a cache line");
+    println!("bytes to write into: {LONGEST}, likewise");
+    println!("words, boards, lists and bytes start on a cache line");
     println!("board: copied afresh before each note, admit and withdraw; the {copy:.1} for");
     println!("the copy are already taken off");
     println!("the cost is 0 where none is named");
@@ -28,7 +29,9 @@ pub fn print() {
     let admitted = admissions(copy);
     withdrawal(copy);
     asking();
+    let (written, read) = writing();
     guard(&noted, &admitted);
+    both_ways(written, read);
 }
 
 /// The names' column.
@@ -246,4 +249,57 @@ fn asking() {
         },
     );
     line("ask to the end, full board", time);
+}
+
+/// The longest record's times, written and read.
+fn writing() -> ((f64, f64), (f64, f64)) {
+    let task = Task::longest();
+    let record = task.record();
+    let written = write_times(&task);
+    line(&format!("write {} bytes", record.len()), written);
+    // No call reads and does nothing else. A byte more is refused when all of
+    // the record is read, and the loops in it are not looked for.
+    let followed = [&record[..], &[0]].concat();
+    let answer = ffi::plan(&followed, &mut [0; PLAN_WORDS], 0);
+    assert_eq!((answer.refusal, answer.place), (9, record.len() as u64));
+    let read = plan_times(&[followed], 0);
+    let name = format!("read {} bytes, then refusal 9", record.len());
+    line(&name, read);
+    (written, read)
+}
+
+fn write_times(task: &Task) -> (f64, f64) {
+    let [Aligned(executions), Aligned(parents)] = &lists(task);
+    let (edition, id, period) = (task.edition, task.id, task.period);
+    let mut bytes = [Aligned([0; LONGEST]); 2];
+    let [Aligned(library), Aligned(reference)] = &mut bytes;
+    // A refusal would be over sooner.
+    let answer = ffi::write_record(executions, parents, library, edition, id, period);
+    assert_eq!(answer.value, task.record().len() as u64);
+    pair(
+        || {
+            let (executions, parents) = (black_box(executions), black_box(parents));
+            let (edition, id, period) = black_box((edition, id, period));
+            let bytes = black_box(&mut *library);
+            black_box(ffi::write_record(
+                executions, parents, bytes, edition, id, period,
+            ));
+        },
+        || {
+            let (executions, parents) = (black_box(executions), black_box(parents));
+            let (edition, id, period) = black_box((edition, id, period));
+            let bytes = black_box(&mut *reference);
+            black_box(reference::write_record(
+                executions, parents, bytes, edition, id, period,
+            ));
+        },
+    )
+}
+
+fn both_ways(written: (f64, f64), read: (f64, f64)) {
+    println!();
+    println!("the time to write the longest record over the time to read it");
+    println!("{:NAMES$}{:>9}{:>11}", "", "library", "reference");
+    let (library, reference) = (written.0 / read.0, written.1 / read.1);
+    println!("{:NAMES$}{library:9.2}{reference:11.2}", "64 nodes");
 }

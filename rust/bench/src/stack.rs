@@ -2,7 +2,9 @@
 //! seen how far down the paint is gone.
 
 use crate::frames;
-use crate::setup::{board, half_joins, roomy_record, CORES, COST, RING, SHAPES};
+use crate::setup::{
+    board, half_joins, lists, roomy_record, Aligned, CORES, COST, LONGEST, RING, SHAPES,
+};
 use ffi::task::Task;
 use reference::{Answer, Row, PLAN_WORDS};
 use std::hint::black_box;
@@ -28,7 +30,8 @@ pub fn print() {
     println!();
     println!("stack in bytes, with the small frame that makes the call; for plan, note and");
     println!("admit the deepest of 64 nodes in each shape, a chain half of joins, the ring and");
-    println!("the longest record, at cost {COST}; admit is for {CORES} cores, which have room");
+    println!("the longest record, at cost {COST}; admit is for {CORES} cores, which have room;");
+    println!("write is of the longest record");
     println!("{:42}{:>9}{:>11}", "", "library", "reference");
     let with_id = |(shape, id)| roomy_record(shape, 64, id);
     let shapes = SHAPES.into_iter().chain([RING]);
@@ -37,6 +40,7 @@ pub fn print() {
     plan_depths(&records);
     put_depths(&records);
     board_depths();
+    write_depths();
     if cfg!(target_arch = "x86_64") {
         step_depth();
     }
@@ -135,6 +139,27 @@ fn ask_depths() {
         black_box(reference::ask_to_end(black_box(&rows), black_box(16)));
     });
     line("ask to the end", library, reference);
+}
+
+fn write_depths() {
+    let task = Task::longest();
+    let [Aligned(executions), Aligned(parents)] = &lists(&task);
+    let (edition, id, period) = (task.edition, task.id, task.period);
+    let mut bytes = [0; LONGEST];
+    let library = depth(&mut || {
+        let bytes = black_box(&mut bytes);
+        black_box(ffi::write_record(
+            executions, parents, bytes, edition, id, period,
+        ));
+    });
+    let reference = depth(&mut || {
+        let bytes = black_box(&mut bytes);
+        black_box(reference::write_record(
+            executions, parents, bytes, edition, id, period,
+        ));
+    });
+    assert_eq!(bytes[..], task.record());
+    line("write", library, reference);
 }
 
 fn deepest(records: &[Vec<u8>], mut call: impl FnMut(&[u8]) + Send) -> usize {

@@ -1,8 +1,9 @@
 //! One case: buffers as they are lent, and calls made on them in turn, by
 //! the library and by the reference, each on its own copy.
 
-use crate::guarded::{self, Buffers, Guard, Tally};
-use crate::{rounds, sales};
+use crate::guarded::{self, Buffers, Guard};
+use crate::writing::Writing;
+use crate::{rounds, sales, written};
 use reference::{Answer, Row};
 
 #[derive(Clone, PartialEq)]
@@ -18,6 +19,7 @@ pub enum Call {
     Withdraw(u64),
     Ask(u64),
     AskToEnd(u64),
+    Write(Writing),
 }
 
 impl Call {
@@ -41,6 +43,16 @@ impl Call {
     pub fn asks(cores: u64) -> [Call; 2] {
         Call::ASKS.map(|ask| ask(cores))
     }
+
+    /// The record that the call reads, if it reads one.
+    pub fn record(&self) -> Option<&[u8]> {
+        match self {
+            Call::Plan(record, _) | Call::Note(record, _) | Call::Admit { record, .. } => {
+                Some(record)
+            }
+            Call::Withdraw(_) | Call::Ask(_) | Call::AskToEnd(_) | Call::Write(_) => None,
+        }
+    }
 }
 
 #[derive(Clone, PartialEq)]
@@ -50,9 +62,20 @@ pub struct Case {
     pub calls: Vec<Call>,
 }
 
+impl Case {
+    /// Needs neither words nor a board.
+    pub fn write(writing: Writing) -> Case {
+        Case {
+            words: vec![],
+            board: vec![],
+            calls: vec![Call::Write(writing)],
+        }
+    }
+}
+
 /// The first call after which the two sides aren't equal, or the library's
-/// answer breaks a rule of loops or of admitting, or a promise of the sales
-/// sheet.
+/// answer breaks a rule of loops, of admitting or of writing, or a promise of the
+/// sales sheet.
 pub struct Difference {
     pub call: usize,
     pub library: Answer,
@@ -63,7 +86,7 @@ pub struct Difference {
     pub broken: Option<&'static str>,
 }
 
-/// The six calls of one side.
+/// The seven calls of one side.
 struct Planner {
     plan: fn(&[u8], &mut [u64], u64) -> Answer,
     note: fn(&[u8], &mut [u64], &mut [Row], u64) -> Answer,
@@ -71,6 +94,7 @@ struct Planner {
     withdraw: fn(&mut [Row], u64) -> Answer,
     ask: fn(&[Row], u64) -> Answer,
     ask_to_end: fn(&[Row], u64) -> Answer,
+    write_record: fn(&[u64], &[u64], &mut [u8], u64, u64, u64) -> Answer,
 }
 
 const LIBRARY: Planner = Planner {
@@ -80,6 +104,7 @@ const LIBRARY: Planner = Planner {
     withdraw: ffi::withdraw,
     ask: ffi::ask,
     ask_to_end: ffi::ask_to_end,
+    write_record: ffi::write_record,
 };
 
 const REFERENCE: Planner = Planner {
@@ -89,13 +114,27 @@ const REFERENCE: Planner = Planner {
     withdraw: reference::withdraw,
     ask: reference::ask,
     ask_to_end: reference::ask_to_end,
+    write_record: reference::write_record,
 };
+
+/// What is counted over the calls, where nothing differs.
+#[derive(Default)]
+pub struct Tally {
+    pub guarded: guarded::Tally,
+    pub written: written::Tally,
+}
+
+impl Tally {
+    pub fn add(&mut self, other: &Tally) {
+        self.guarded.add(&other.guarded);
+        self.written.add(&other.written);
+    }
+}
 
 pub fn difference(case: &Case) -> Option<Difference> {
     compared(case).err()
 }
 
-/// How many tasks the guard kept and turned away, where nothing differs.
 pub fn compared(case: &Case) -> Result<Tally, Difference> {
     let mut library = Lent::new(case);
     let mut reference = Lent::new(case);
@@ -117,7 +156,8 @@ pub fn compared(case: &Case) -> Result<Tally, Difference> {
                 broken,
             });
         }
-        tally.count(call, &library_answer);
+        tally.guarded.count(call, &library_answer);
+        tally.written.count(call, &library_answer);
     }
     Ok(tally)
 }
@@ -128,6 +168,9 @@ struct Lent {
     words: Fenced<u64>,
     board: Fenced<Row>,
     record: Fenced<u8>,
+    executions: Fenced<u64>,
+    parents: Fenced<u64>,
+    bytes: Fenced<u8>,
 }
 
 impl Lent {
@@ -147,13 +190,26 @@ impl Lent {
             board: Fenced::new(&case.board, row),
             // Reading on past the end, one would meet good numbers.
             record: Fenced::new(&[], 1),
+            executions: Fenced::new(&[], 1),
+            parents: Fenced::new(&[], 1),
+            bytes: Fenced::new(&[], 0xFE),
+        }
+    }
+
+    /// What the call itself brings.
+    fn refill(&mut self, call: &Call) {
+        if let Some(record) = call.record() {
+            self.record.refill(record);
+        }
+        if let Call::Write(writing) = call {
+            self.executions.refill(&writing.executions);
+            self.parents.refill(&writing.parents);
+            self.bytes.refill(&writing.old_bytes());
         }
     }
 
     fn make(&mut self, call: &Call, by: &Planner) -> Answer {
-        if let Call::Plan(record, _) | Call::Note(record, _) | Call::Admit { record, .. } = call {
-            self.record.refill(record);
-        }
+        self.refill(call);
         let words = self.words.inside();
         let board = self.board.inside();
         match *call {
@@ -165,6 +221,16 @@ impl Lent {
             Call::Withdraw(id) => (by.withdraw)(board, id),
             Call::Ask(cores) => (by.ask)(board, cores),
             Call::AskToEnd(cores) => (by.ask_to_end)(board, cores),
+            Call::Write(Writing {
+                edition,
+                id,
+                period,
+                ..
+            }) => {
+                let (executions, parents) = (self.executions.inside(), self.parents.inside());
+                let bytes = self.bytes.inside();
+                (by.write_record)(executions, parents, bytes, edition, id, period)
+            }
         }
     }
 
@@ -174,6 +240,7 @@ impl Lent {
         rounds::broken(call, answer)
             .or_else(|| sales::broken(call, answer, board))
             .or_else(|| guarded::broken(call, answer, before.buffers(), self.buffers()))
+            .or_else(|| written::broken(call, answer, self.bytes.content()))
     }
 
     fn buffers(&self) -> Buffers<'_> {
@@ -184,7 +251,20 @@ impl Lent {
         let word = self.words.first_difference(&reference.words, "word");
         let row = || self.board.first_difference(&reference.board, "row");
         let byte = || self.record.first_difference(&reference.record, "byte");
-        word.or_else(row).or_else(byte)
+        let execution = || {
+            self.executions
+                .first_difference(&reference.executions, "execution")
+        };
+        let set = || {
+            self.parents
+                .first_difference(&reference.parents, "set of parents")
+        };
+        let written = || {
+            self.bytes
+                .first_difference(&reference.bytes, "written byte")
+        };
+        let read = word.or_else(row).or_else(byte);
+        read.or_else(execution).or_else(set).or_else(written)
     }
 }
 

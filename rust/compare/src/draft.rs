@@ -1,7 +1,7 @@
 //! A record taken apart, whether it is a good one or not: for shrinking, and
 //! for the nodes that an answer speaks of.
 
-use ffi::task::{number, Node, Task};
+use ffi::task::{encoded, Node, Task};
 
 /// The nodes that could be read whole, and the bytes from there on.
 #[derive(Clone)]
@@ -42,7 +42,7 @@ impl Draft {
     pub fn record(&self) -> Vec<u8> {
         let mut numbers = self.task.numbers();
         numbers[Task::COUNT_AT] += self.missing;
-        let mut record: Vec<u8> = numbers.into_iter().flat_map(number).collect();
+        let mut record = encoded(&numbers);
         record.extend(&self.tail);
         record
     }

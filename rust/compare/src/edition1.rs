@@ -3,9 +3,8 @@
 //! which change with what is compared.
 
 use crate::random::Random;
-use crate::records::encoded;
 use crate::tasks::LARGEST_PERIOD;
-use ffi::task::{backward, chain, dense, fork, number, Node, Task};
+use ffi::task::{backward, chain, dense, encoded, fork, number, Node, Task};
 use std::collections::BTreeSet;
 
 /// A record that begins with edition 2 is none of these.

@@ -2,24 +2,26 @@
 //! as many by chance as asked for.
 
 use crate::boards::{free_board, random_board, tight_board, SPOILS};
-use crate::case::{compared, Call, Case};
+use crate::case::{compared, Call, Case, Tally};
 use crate::chance::{
     any_board, any_call, any_cores, any_cost, any_record, board_calls, old_words, put,
 };
 use crate::costs::{self, ALLOWED, COSTS, REFUSED};
 use crate::draft::Draft;
 use crate::fits::{guarded_call, tight_fit};
-use crate::guarded::Tally;
 use crate::joins::{self, sprinkle};
+use crate::lists::{self, any_writing};
 use crate::loops::drawings;
 use crate::random::Random;
 use crate::records::{
-    bad_forms, encoded, half_joins, misspelt, plain_task, random_bytes, samples, short_lists,
-    spoilt, with_form, WORKED,
+    bad_forms, half_joins, misspelt, plain_task, random_bytes, samples, short_lists, spoilt,
+    with_form, WORKED,
 };
 use crate::tasks::{random_task, task_of};
 use crate::to_end::tight_to_end;
-use ffi::task::{chain, Task};
+use crate::writing::Writing;
+use crate::written;
+use ffi::task::{chain, encoded, Task};
 use reference::{Row, PLAN_WORDS};
 use std::io::{self, Write};
 
@@ -35,6 +37,8 @@ pub struct Run {
     wanted: u64,
     pub compared: u64,
     pub tally: Tally,
+    /// Records that were read, and written again.
+    pub again: u64,
 }
 
 type Outcome = Result<(), Found>;
@@ -54,6 +58,7 @@ impl Run {
             wanted,
             compared: 0,
             tally: Tally::default(),
+            again: 0,
         }
     }
 
@@ -76,6 +81,11 @@ impl Run {
         self.family("tight fits", Run::tight_fits)?;
         self.family("guarded runs", Run::guarded_runs)?;
         self.family("sequences", Run::sequences)?;
+        self.family("limits to write", Run::limits_to_write)?;
+        self.family("two faults to write", Run::two_faults_to_write)?;
+        self.family("lengths to write", Run::lengths_to_write)?;
+        self.family("counts to write", Run::counts_to_write)?;
+        self.family("tables to write", Run::tables_to_write)?;
         self.family("by chance", Run::by_chance)
     }
 
@@ -99,6 +109,22 @@ impl Run {
             });
         };
         self.tally.add(&tally);
+        let mut records = case.calls.iter().filter_map(Call::record);
+        records.try_for_each(|record| self.write_again(record))
+    }
+
+    /// A case of its own only where another record comes of it.
+    fn write_again(&mut self, record: &[u8]) -> Outcome {
+        let Some(writing) = written::again(record) else {
+            return Ok(());
+        };
+        if !written::gives(&writing, record) {
+            return Err(Found {
+                family: self.family,
+                case: Case::write(writing),
+            });
+        }
+        self.again += 1;
         Ok(())
     }
 
@@ -418,6 +444,38 @@ impl Run {
         self.on_board(board, calls)
     }
 
+    fn write_each(&mut self, writings: Vec<Writing>) -> Outcome {
+        let mut cases = writings.into_iter().map(Case::write);
+        cases.try_for_each(|case| self.compare(case))
+    }
+
+    fn limits_to_write(&mut self) -> Outcome {
+        let writings = lists::limits(&mut self.random);
+        self.write_each(writings)
+    }
+
+    fn two_faults_to_write(&mut self) -> Outcome {
+        let writings = lists::two_faults(&mut self.random);
+        self.write_each(writings)
+    }
+
+    fn lengths_to_write(&mut self) -> Outcome {
+        let writings = lists::lengths(&mut self.random);
+        self.write_each(writings)
+    }
+
+    fn counts_to_write(&mut self) -> Outcome {
+        self.write_each(lists::counts())
+    }
+
+    fn tables_to_write(&mut self) -> Outcome {
+        for _ in 0..20_000 {
+            let writing = any_writing(&mut self.random);
+            self.compare(Case::write(writing))?;
+        }
+        Ok(())
+    }
+
     fn by_chance(&mut self) -> Outcome {
         while self.compared < self.wanted {
             self.one_by_chance()?;
@@ -455,6 +513,10 @@ impl Run {
                 let numbers = random_task(random, cost).numbers();
                 let record = misspelt(random, &numbers);
                 self.plan_at(record, cost)
+            }
+            33..=40 => {
+                let writing = any_writing(random);
+                self.compare(Case::write(writing))
             }
             _ => {
                 let record = random_task(random, cost).record();

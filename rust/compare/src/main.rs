@@ -11,6 +11,7 @@ mod families;
 mod fits;
 mod guarded;
 mod joins;
+mod lists;
 mod loops;
 mod random;
 mod records;
@@ -21,9 +22,10 @@ mod shrink;
 mod stored;
 mod tasks;
 mod to_end;
+mod writing;
+mod written;
 
 use families::Run;
-use guarded::Tally;
 use std::env;
 use std::process::ExitCode;
 
@@ -75,8 +77,7 @@ fn compare(Options { cases, seed, .. }: Options) -> ExitCode {
     println!("seed {seed}");
     let mut run = Run::of(cases, seed);
     let Err(found) = run.all() else {
-        let Tally { kept, turned_away } = run.tally;
-        println!("of these, tasks admitted: {kept}, turned away by 20: {turned_away}");
+        print_tally(&run);
         println!("compared {} cases, 0 differences", run.compared);
         return ExitCode::SUCCESS;
     };
@@ -87,4 +88,14 @@ fn compare(Options { cases, seed, .. }: Options) -> ExitCode {
     report::print(&shrink::shrink(found.case));
     println!("compared {} cases, 1 difference", run.compared);
     ExitCode::FAILURE
+}
+
+fn print_tally(Run { tally, again, .. }: &Run) {
+    let guarded::Tally { kept, turned_away } = tally.guarded;
+    println!("of these, tasks admitted: {kept}, turned away by 20: {turned_away}");
+    let written::Tally { written, refused } = &tally.written;
+    let by = |(number, count)| format!(" {number}: {count}");
+    let by: Vec<String> = refused.iter().map(by).collect();
+    println!("records written: {written}, refused by{}", by.join(","));
+    println!("records read and written again, byte for byte: {again}");
 }

@@ -2,7 +2,7 @@
 
 use crate::random::Random;
 use crate::tasks::{random_task, task_of};
-use ffi::task::{chain, dense, fork, number, Node, Task};
+use ffi::task::{chain, dense, encoded, fork, number, Node, Task};
 
 /// Document 01's records, one whose child is listed first, and some of
 /// edition 2: a join first, last and between, no step at all, joins on a loop.
@@ -63,10 +63,6 @@ pub fn plain_task(parents: Vec<Vec<u64>>) -> Task {
         period: 40_000,
         nodes: parents.into_iter().map(node).collect(),
     }
-}
-
-pub fn encoded(numbers: &[u64]) -> Vec<u8> {
-    numbers.iter().copied().flat_map(number).collect()
 }
 
 /// The record with one number's bytes replaced.

@@ -2,6 +2,7 @@
 
 use crate::case::{difference, Call, Case};
 use crate::stored::Changed;
+use crate::writing::Writing;
 use reference::{Answer, Row};
 
 pub fn print(case: &Case) {
@@ -59,7 +60,23 @@ fn text(call: &Call) -> String {
         Call::Withdraw(id) => format!("withdraw {id}"),
         Call::Ask(cores) => format!("ask {cores}"),
         Call::AskToEnd(cores) => format!("ask to the end {cores}"),
+        Call::Write(writing) => writing_text(writing),
     }
+}
+
+fn writing_text(writing: &Writing) -> String {
+    let Writing {
+        edition,
+        id,
+        period,
+        executions,
+        parents,
+        lent,
+    } = writing;
+    format!(
+        "write edition {edition} id {id} period {period} into {lent} bytes, \
+         executions {executions:?}, parents in hex {parents:X?}"
+    )
 }
 
 fn bytes(record: &[u8]) -> String {

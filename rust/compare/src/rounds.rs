@@ -22,7 +22,7 @@ pub fn broken(call: &Call, answer: &Answer) -> Option<&'static str> {
         return (answer.ring != 0).then_some("only refusal 10 shows a loop");
     }
     let round = Round {
-        nodes: nodes(call),
+        nodes: call.record().map_or(vec![], nodes),
         named: answer.place,
         ring: answer.ring,
     };
@@ -30,13 +30,8 @@ pub fn broken(call: &Call, answer: &Answer) -> Option<&'static str> {
     broken.map(|(rule, _)| rule)
 }
 
-fn nodes(call: &Call) -> Vec<Node> {
-    match call {
-        Call::Plan(record, _) | Call::Note(record, _) | Call::Admit { record, .. } => {
-            Draft::read(record).map_or(vec![], |draft| draft.task.nodes)
-        }
-        Call::Withdraw(_) | Call::Ask(_) | Call::AskToEnd(_) => vec![],
-    }
+fn nodes(record: &[u8]) -> Vec<Node> {
+    Draft::read(record).map_or(vec![], |draft| draft.task.nodes)
 }
 
 /// A task's nodes, the one that is named, and the set shown with it.

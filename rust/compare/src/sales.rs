@@ -30,7 +30,11 @@ pub fn broken(call: &Call, answer: &Answer, board: &[Row]) -> Option<&'static st
     let (ask, cores): (fn(&[Row], u64) -> Answer, u64) = match *call {
         Call::Ask(cores) => (ffi::ask, cores),
         Call::AskToEnd(cores) => (ffi::ask_to_end, cores),
-        Call::Plan(..) | Call::Note(..) | Call::Admit { .. } | Call::Withdraw(_) => return None,
+        Call::Plan(..)
+        | Call::Note(..)
+        | Call::Admit { .. }
+        | Call::Withdraw(_)
+        | Call::Write(_) => return None,
     };
     if answer.refusal != 0 {
         return None;

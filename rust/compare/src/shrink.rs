@@ -3,6 +3,7 @@
 
 use crate::case::{difference, Call, Case};
 use crate::draft::Draft;
+use crate::writing::Writing;
 use ffi::task::Task;
 use reference::Row;
 
@@ -80,6 +81,7 @@ fn shrink_call(case: &mut Case, at: usize) {
             lower_number(case, at, cores, |cores| Call::admit(&record, cores, cost));
             shrink_planned(case, at, cost);
         }
+        Call::Write(_) => shrink_writing(case, at),
     }
 }
 
@@ -104,7 +106,7 @@ fn record_and_cost(case: &mut Case, at: usize) -> (&mut Vec<u8>, &mut u64) {
         Call::Plan(record, cost) | Call::Note(record, cost) | Call::Admit { record, cost, .. } => {
             (record, cost)
         }
-        Call::Withdraw(_) | Call::Ask(_) | Call::AskToEnd(_) => {
+        Call::Withdraw(_) | Call::Ask(_) | Call::AskToEnd(_) | Call::Write(_) => {
             unreachable!("this call has no record")
         }
     }
@@ -165,6 +167,56 @@ fn shrink_task(case: &mut Case, at: usize) {
     for field in TASK_FIELDS {
         lower(*field(&mut draft.task), |value| {
             change(&mut draft, &|draft| *field(&mut draft.task) = value)
+        });
+    }
+}
+
+const LISTS: [fn(&mut Writing) -> &mut Vec<u64>; 2] = [
+    |writing| &mut writing.executions,
+    |writing| &mut writing.parents,
+];
+
+const WRITING_FIELDS: [fn(&mut Writing) -> &mut u64; 4] = [
+    |writing| &mut writing.period,
+    |writing| &mut writing.id,
+    |writing| &mut writing.edition,
+    |writing| &mut writing.lent,
+];
+
+fn writing(case: &mut Case, at: usize) -> &mut Writing {
+    match &mut case.calls[at] {
+        Call::Write(writing) => writing,
+        _ => unreachable!("this call writes no record"),
+    }
+}
+
+/// Nodes, entries of one list, parents, then numbers.
+fn shrink_writing(case: &mut Case, at: usize) {
+    let [executions, parents] = LISTS.map(|list| list(writing(case, at)).len());
+    drop_parts(executions.min(parents), |first, length| {
+        keeps(case, |case| writing(case, at).drop_nodes(first, length))
+    });
+    for list in LISTS {
+        drop_parts(list(writing(case, at)).len(), |first, length| {
+            let part = first..first + length;
+            keeps(case, |case| drop(list(writing(case, at)).drain(part)))
+        });
+    }
+    for node in 0..writing(case, at).parents.len() {
+        for bit in (0..64).map(|parent| 1 << parent) {
+            if writing(case, at).parents[node] & bit != 0 {
+                keeps(case, |case| writing(case, at).parents[node] ^= bit);
+            }
+        }
+    }
+    for node in 0..writing(case, at).executions.len() {
+        lower(writing(case, at).executions[node], |value| {
+            keeps(case, |case| writing(case, at).executions[node] = value)
+        });
+    }
+    for field in WRITING_FIELDS {
+        lower(*field(writing(case, at)), |value| {
+            keeps(case, |case| *field(writing(case, at)) = value)
         });
     }
 }

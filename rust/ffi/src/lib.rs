@@ -1,4 +1,4 @@
-//! The proved library's C interface as six ordinary calls, so that it can
+//! The proved library's C interface as seven ordinary calls, so that it can
 //! stand wherever the reference can; and the tasks both programs feed to it.
 
 pub mod task;
@@ -38,6 +38,17 @@ extern "C" {
     fn planner_withdraw(board: *mut Row, rows: usize, id: u64) -> Answer;
     fn planner_ask(board: *const Row, rows: usize, cores: u64) -> Answer;
     fn planner_ask_to_end(board: *const Row, rows: usize, cores: u64) -> Answer;
+    fn planner_write_record(
+        executions: *const u64,
+        times: usize,
+        parents: *const u64,
+        sets: usize,
+        bytes: *mut u8,
+        lent: usize,
+        edition: u64,
+        id: u64,
+        period: u64,
+    ) -> Answer;
 }
 
 pub fn plan(record: &[u8], words: &mut [u64], cost: u64) -> Answer {
@@ -73,4 +84,24 @@ pub fn ask(board: &[Row], cores: u64) -> Answer {
 pub fn ask_to_end(board: &[Row], cores: u64) -> Answer {
     // SAFETY: pointer and length are one slice's, which is only read.
     unsafe { planner_ask_to_end(board.as_ptr(), board.len(), cores) }
+}
+
+pub fn write_record(
+    executions: &[u64],
+    parents: &[u64],
+    bytes: &mut [u8],
+    edition: u64,
+    id: u64,
+    period: u64,
+) -> Answer {
+    let (times, sets, lent) = (executions.len(), parents.len(), bytes.len());
+    let (executions, parents) = (executions.as_ptr(), parents.as_ptr());
+    let bytes = bytes.as_mut_ptr();
+    // SAFETY: each pointer goes with its own slice's length; the bytes overlap
+    // neither list, and these are only read.
+    unsafe {
+        planner_write_record(
+            executions, times, parents, sets, bytes, lent, edition, id, period,
+        )
+    }
 }

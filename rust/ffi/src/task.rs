@@ -30,7 +30,14 @@ impl Task {
     }
 
     pub fn record(&self) -> Vec<u8> {
-        self.numbers().into_iter().flat_map(number).collect()
+        encoded(&self.numbers())
+    }
+
+    /// For each node its execution, and its parents as a set, node k as bit k.
+    pub fn lists(&self) -> (Vec<u64>, Vec<u64>) {
+        let set = |node: &Node| node.parents.iter().fold(0, |set, parent| set | 1 << parent);
+        let executions = self.nodes.iter().map(|node| node.execution);
+        (executions.collect(), self.nodes.iter().map(set).collect())
     }
 
     /// The longest record that is read to its end; its nodes form loops.
@@ -57,13 +64,20 @@ impl Task {
 }
 
 /// A number's shortest form, whatever its size.
-pub fn number(mut value: u64) -> Vec<u8> {
-    let mut bytes = Vec::new();
-    while value >= 0x80 {
-        bytes.push(value as u8 | 0x80);
-        value >>= 7;
+pub fn number(value: u64) -> Vec<u8> {
+    encoded(&[value])
+}
+
+/// Numbers one after the other, each in its shortest form.
+pub fn encoded(numbers: &[u64]) -> Vec<u8> {
+    let mut bytes = Vec::with_capacity(numbers.len());
+    for mut value in numbers.iter().copied() {
+        while value >= 0x80 {
+            bytes.push(value as u8 | 0x80);
+            value >>= 7;
+        }
+        bytes.push(value as u8);
     }
-    bytes.push(value as u8);
     bytes
 }
 

@@ -1,5 +1,5 @@
 //! Document 01, as the requests of document 02 change it, in plain Rust: the
-//! six public calls and the printed sheet.
+//! seven public calls and the printed sheet.
 //!
 //! Written from the documents alone, but for which loop is shown (the choice
 //! is docs/PROTOCOL.md's), so that an answer of the proved library can be held
@@ -15,20 +15,23 @@ mod ring;
 mod row;
 mod sheet;
 mod timing;
+mod write;
 
 pub use plan::PLAN_WORDS;
+pub use record::Table;
 pub use row::Row;
 pub use sheet::sheet;
 
 use board::{allowed_cores, find, fits, free_row, sound, verdict, verdict_to_end, ROWS};
 use plan::{lent_words, write_plan};
-use record::Table;
 use refusal::{Refusal, Rule};
 use timing::Timing;
+use write::write;
 
-/// What every call returns. With refusal 0, `value` is the words written, the
-/// row filled or freed, or 1 for yes and 0 for no; otherwise it is 0. Beside
-/// refusal 10, `ring` is the set of a loop's nodes, node k as bit k; else 0.
+/// What every call returns. With refusal 0, `value` is the words or bytes
+/// written, the row filled or freed, or 1 for yes and 0 for no; otherwise it is
+/// 0. Beside refusal 10, `ring` is the set of a loop's nodes, node k as bit k;
+/// else 0.
 #[repr(C)]
 #[derive(Clone, Copy, Debug, Default, PartialEq, Eq)]
 pub struct Answer {
@@ -93,6 +96,26 @@ pub fn ask_to_end(board: &[Row], cores: u64) -> Answer {
         .and_then(|rows| verdict_to_end(rows, cores))
         .map(u64::from)
         .into()
+}
+
+/// Writes the record of a table into the lent bytes. Each list has an entry for
+/// each node, of the parents a set, node p as bit p; the value is the number of
+/// bytes.
+pub fn write_record(
+    executions: &[u64],
+    parents: &[u64],
+    bytes: &mut [u8],
+    edition: u64,
+    id: u64,
+    period: u64,
+) -> Answer {
+    write(executions, parents, bytes, edition, id, period).into()
+}
+
+/// What the calls read a record as, or their answer where it is refused. It is
+/// none of the calls: what is written can be held against it.
+pub fn read(record: &[u8]) -> Result<Table, Answer> {
+    Table::read(record).map_err(|refusal| Err(refusal).into())
 }
 
 fn planned(record: &[u8], words: &mut [u64], cost: u64) -> Result<u64, Refusal> {

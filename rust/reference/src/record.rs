@@ -4,6 +4,7 @@ use crate::refusal::{Refusal, Rule};
 
 /// A task as its record gives it, with the cost that its steps have paid. A node
 /// with execution 0 is a join. Entries past the node count are 0.
+#[derive(Clone, Debug, PartialEq, Eq)]
 pub struct Table {
     pub edition: u64,
     pub id: u64,
@@ -23,7 +24,7 @@ impl Table {
     pub const LARGEST_COST: u64 = 255;
 
     /// Refusals 1 to 9 and 18, in the order they are met, then 21.
-    pub fn read(record: &[u8]) -> Result<Table, Refusal> {
+    pub(crate) fn read(record: &[u8]) -> Result<Table, Refusal> {
         let mut reader = Reader { record, at: 0 };
         let edition = reader.within(1, Table::LARGEST_EDITION, Rule::Edition)?;
         let id = reader.within(1, Table::LARGEST_ID, Rule::Id)?;
@@ -37,8 +38,8 @@ impl Table {
             executions: [0; Table::LARGEST_COUNT],
             parents: [0; Table::LARGEST_COUNT],
         };
+        let least = Table::least_execution(edition);
         for node in 0..table.count {
-            let least = table.least_execution();
             table.executions[node] =
                 reader.within(least, Table::LARGEST_EXECUTION, Rule::Execution)?;
             table.parents[node] = reader.parents(count)?;
@@ -51,7 +52,7 @@ impl Table {
     }
 
     /// An execution is what is written plus the cost. A join pays nothing.
-    pub fn pay(&mut self, cost: u64) {
+    pub(crate) fn pay(&mut self, cost: u64) {
         for execution in &mut self.executions[..self.count] {
             if *execution > 0 {
                 *execution += cost;
@@ -60,12 +61,12 @@ impl Table {
     }
 
     /// Only edition 2 has joins.
-    fn least_execution(&self) -> u64 {
-        u64::from(self.edition == 1)
+    pub(crate) fn least_execution(edition: u64) -> u64 {
+        u64::from(edition == 1)
     }
 
     /// The set of the task's nodes.
-    pub fn all_nodes(&self) -> u64 {
+    pub(crate) fn all_nodes(&self) -> u64 {
         u64::MAX >> (Table::LARGEST_COUNT - self.count)
     }
 }

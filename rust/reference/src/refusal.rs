@@ -21,6 +21,7 @@ pub enum Rule {
     ShortPlan = 16,
     UnsoundBoard = 17,
     NotShortest = 18,
+    Lengths = 19,
     WouldBeNo = 20,
     NothingRuns = 21,
     Cost = 26,

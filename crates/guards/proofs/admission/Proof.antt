@@ -21,8 +21,9 @@ use Rattle.boards.proofs.Sound.{test-sound}
 use Rattle.boards.proofs.Cases.{may-ask}
 use Rattle.admissions.specs.Admission.{Admission, notAdmitted}
 use Rattle.guards.specs.Guarded.{guardedEntry, admission}
-use Rattle.guards.specs.Inner.InOrder.{inOrder}
-use Rattle.guards.proofs.Guarding.{all-accepted, admission-ordered}
+use Rattle.refusals.specs.InOrder.{inOrder}
+use Rattle.refusals.proofs.InOrder.{all-accepted}
+use Rattle.guards.proofs.Guarding.{admission-ordered}
 use Rattle.admissions.proofs.Tests.{leaves}
 use Rattle.guards.proofs.admission.Statement.{statement}
 use Rattle.guards.proofs.admission.Tie as tie

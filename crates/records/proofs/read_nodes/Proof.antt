@@ -113,11 +113,11 @@ all-zero-requires : tie.Need-all-zero-requires Inv-loop μ-loop
 all-zero-requires c κs = search needs
 
 nothing-follows-requires : tie.Need-nothing-follows-requires Inv-loop μ-loop
-nothing-follows-requires c κs = let l = c .before .before .before .before .loop in
+nothing-follows-requires c κs = let l = c .before .before .before .before .before .loop in
     c .all-zero .ensures ∙ ap (allZero (l .table .execution)) (sym (l .inv .4))
 
 returns-3 : tie.Need-returns-3 Inv-loop μ-loop
-returns-3 c = let e = c .before .before .before .before in c .nothing-follows .ensures ∙ sym (e .before .loop .inv .0 ∙ nodes-none _ _ _ _ _ (e .loop-test .left))
+returns-3 c = let e = c .before .before .before .before .before in c .nothing-follows .ensures ∙ sym (e .before .loop .inv .0 ∙ nodes-none _ _ _ _ _ (e .loop-test .left))
 
 pub read-nodes-spec : {M : Type 1} → statement M
 read-nodes-spec =

@@ -1,40 +1,40 @@
 -- What is written of a table in range is read as that table: its numbers are in range one after the other, and put the same entries into a
 -- table that begins empty.
-use Prim.Native.Nat.{ℕ, zero, suc, _+_, _*_, _^_, _≤_, _<_, zero-le}
-use mathlib.Core.Path.{_≡_, refl, sym, ap, ap₂, _∙_}
+use Prim.Native.Nat.{ℕ, zero, suc, _+_, _^_, _≤_, _<_, zero-le}
+use mathlib.Core.Path.{_≡_, refl, sym, ap₂, _∙_}
 use mathlib.Core.Logic.{⊎-elim}
 use mathlib.Core.List.{List, [], _∷_, _++_, append-assoc, append-nil}
-use native.Mathlib.Nat.{add-zero, one-mul, zero-mul, eq-or-lt-of-le, le-refl, lt-of-lt-of-le}
+use native.Mathlib.Nat.{add-zero, eq-or-lt-of-le, le-refl, lt-of-lt-of-le}
 use native.Mathlib.Numerals.{add-one}
 use native.Mathlib.Omega.{arith}
-use lib.ListN.{length, set, replicate, length-append}
+use lib.ListN.{length, set, replicate}
 use lib.Pow.{pow-mono}
 use borrow.Author.Tests.{lt-ltb, le-ltb}
 use Rattle.plain.specs.At.{at}
 use Rattle.plain.proofs.Lists.{lt-or-ge, Filled, fill-zeros, fill-more}
-use Rattle.sets.specs.Member.{bit}
-use Rattle.sets.specs.Inner.Members.{members}
+use Rattle.sets.specs.Members.{members}
 use Rattle.sets.specs.Rule.{setOf}
-use Rattle.sets.proofs.Bits.{bit-le, mem-lt, mem-or, same-bits}
+use Rattle.sets.proofs.Bits.{bit-le, mem-lt, same-bits}
 use Rattle.sets.proofs.Sizes.{size-full, length-members}
 use Rattle.sets.proofs.Rule.{bit-past, bit-set}
 use Rattle.tables.specs.declared.TaskTable.{TaskTable}
 use Rattle.tables.specs.Limits.{countMax, executionMax, leastExecution}
 use Rattle.tables.specs.Range.{InRange}
+use Rattle.refusals.specs.declared.Outcome.the-variants.{Accepted}
 use Rattle.records.specs.Nodes.{tableRead, withNode}
 use Rattle.records.specs.Reading.{readingOf}
-use Rattle.records.specs.Expected.{nodeFrom, parentFrom}
+use Rattle.records.specs.Expected.{Next, nodeFrom}
 use Rattle.records.specs.Expected.Due.{edition, id, period, count, execution}
 use Rattle.records.specs.Expected.Next.{number}
-use Rattle.records.specs.Inner.Written.{nodeNumbers, numbersTo, recordOf, Full}
-use Rattle.records.proofs.Written.{Tells, written-read}
-use Rattle.records.proofs.Written.Tells.{end, one}
-use Rattle.records.proofs.Again.{high-zero}
+use Rattle.writers.specs.Record.{nodeNumbers, numbersTo, numbersOf, recordOf, Full}
+use Rattle.writers.specs.Ranges.{rangesFrom, ranges}
+use Rattle.writers.proofs.Written.{Tells, written-read}
+use Rattle.writers.proofs.Written.Tells.{end, one}
+use Rattle.writers.proofs.Tried.{ranges-in}
+use Rattle.writers.proofs.Along.{digits, along-members}
+use Rattle.writers.proofs.Again.{high-zero}
 
 -- a word is the set of its digits, and has no more members than its width
-abbrev digits : ℕ → ℕ → ℕ
-digits w k = bit k w
-
 digits-word : (w : ℕ) → w < 2 ^ countMax → setOf countMax (digits w) ≡ w
 digits-word w h = same-bits _ w λ k. ⊎-elim
     (λ (l : k < countMax). bit-set (digits w) (λ k. bit-le k w) countMax k l)
@@ -52,30 +52,19 @@ members-cut n (suc d) w l h = ⊎-elim
 few-members : (n w : ℕ) → n ≤ countMax → w < 2 ^ n → length (members countMax w) ≤ n
 few-members n w l h = rw (members-cut n countMax w l h, length-members n w) (size-full n w)
 
--- the members of w below d are told one after the other, and then what comes after them
-module _ (T u : TaskTable) (i e w : ℕ) (h : w < 2 ^ T .count) where
-  tells-members : (d left : ℕ) (ws : List ℕ) →
-      ((low : ℕ) → low ≤ d → Tells (parentFrom T i e left low (setOf d (digits w))) ws u) →
-      Tells (parentFrom T i e (length (members d w) + left) 0 0) (members d w ++ ws) u
-  unfolding members setOf
-  tells-members zero left ws x = let q : 0 + left ≡ left = omega arith in rw q (x 0 (omega arith))
-  tells-members (suc d) left ws x = ⊎-elim
-      (λ (m : bit d w ≡ 1).
-      let s : setOf d (digits w) + 1 * 2 ^ d ≡ setOf d (digits w) + 2 ^ d = ap (λ (y : ℕ). setOf d (digits w) + y) (one-mul (2 ^ d)) in
-      let q : length (members d w ++ d ∷ []) + left ≡ length (members d w) + suc left = omega (arith, length-append (members d w) (d ∷ [])) in
-      rw (m, q, append-assoc (members d w) (d ∷ []) ws)
-      (tells-members d (suc left) (d ∷ ws) λ low l. one l (omega (arith, mem-lt (T .count) d w h m)) (rw (m, s) at (x (d + 1) (omega arith)))))
-      (λ (z : bit d w ≡ 0).
-      let s : setOf d (digits w) + 0 * 2 ^ d ≡ setOf d (digits w) = ap (λ (y : ℕ). setOf d (digits w) + y) (zero-mul (2 ^ d)) ∙ add-zero (setOf d (digits w)) in
-      rw (z, append-nil (members d w)) (tells-members d left ws λ low l. rw (z, s) at (x low (omega arith))))
-      (mem-or d w)
-
 -- a node is told, and then what comes after it
 tells-node : (T u : TaskTable) (i e w : ℕ) (ws : List ℕ) → T .count ≤ countMax → w < 2 ^ T .count → leastExecution (T .edition) ≤ e → e ≤ executionMax →
     Tells (nodeFrom (withNode T i e w) (i + 1)) ws u → Tells (number (execution T i)) (nodeNumbers e w ++ ws) u
 tells-node T u i e w ws c h l m x =
-    let p = tells-members T u i e w h countMax 0 ws λ low _. rw (digits-word w (lt-of-lt-of-le h (pow-mono c))) x in
+    let p = along-members (λ next place vs. Tells next vs u) (λ due v place vs. one) T i e w countMax 0 0 ws (omega arith) (λ k _ m. mem-lt (T .count) k w h m)
+    λ low _. rw (digits-word w (lt-of-lt-of-le h (pow-mono c))) x in
     one l m (one zero-le (few-members (T .count) w c h) (rw (add-zero (length (members countMax w))) at p))
+
+-- numbers that are told are in range
+tells-ranges : {next : Next} {vs : List ℕ} {t : TaskTable} (place : ℕ) → Tells next vs t → rangesFrom vs next place ≡ Accepted
+unfolding rangesFrom
+tells-ranges place end = refl
+tells-ranges place (one {due} {v} {vs} l h x) = ranges-in due v vs place l h ∙ tells-ranges _ x
 
 -- an array of which the first i entries were put into zeros, and all of it
 fillTo : List ℕ → ℕ → List ℕ
@@ -87,7 +76,7 @@ unfolding fillTo
 fillTo-filled l zero h = fill-zeros (at l) countMax
 fillTo-filled l (suc i) h = rw (← (add-one i)) (fill-more (at l i) h refl (fillTo-filled l i (omega arith)))
 
-same-list : (a b : List ℕ) → length a ≡ length b → ((k : ℕ) → at a k ≡ at b k) → a ≡ b
+pub same-list : (a b : List ℕ) → length a ≡ length b → ((k : ℕ) → at a k ≡ at b k) → a ≡ b
 same-list [] [] e p = refl
 same-list [] (y ∷ b) e p = absurd (omega arith)
 same-list (x ∷ a) [] e p = absurd (omega arith)
@@ -119,8 +108,14 @@ module _ (t : TaskTable) (r : InRange t) (h : Full t) where
       (fillTo-all (t .execution) (t .count) (r .count-high) (h .0) (r .execution-past))
       (fillTo-all (t .parents) (t .count) (r .count-high) (h .1) (r .parents-past))
 
-  -- a table in range reads back
-  pub record-read : readingOf (recordOf t) ≡ tableRead t
-  record-read =
+  -- its numbers tell it, so they are all in range, and a table in range reads back
+  record-tells : Tells (number edition) (numbersOf t) t
+  record-tells =
       let last : Tells (nodeFrom t (t .count)) [] t = rw (le-ltb (t .count) (t .count) (le-refl (t .count))) end in
-      written-read _ t (rw (append-nil (numbersTo t (t .count))) at (tells-from (t .count) (le-refl (t .count)) [] (rw soFar-all last))) (r .some-runs)
+      rw (append-nil (numbersTo t (t .count))) at (tells-from (t .count) (le-refl (t .count)) [] (rw soFar-all last))
+
+  pub table-ranges : ranges (numbersOf t) ≡ Accepted
+  table-ranges = tells-ranges 0 record-tells
+
+  pub record-read : readingOf (recordOf t) ≡ tableRead t
+  record-read = written-read _ t record-tells (r .some-runs)

@@ -9,17 +9,17 @@ use lib.Seq.{drop-append-seam}
 use Rattle.tables.specs.declared.TaskTable.{TaskTable}
 use Rattle.tables.specs.Runs.{SomeRuns}
 use Rattle.numbers.specs.Number.{recordMore}
-use Rattle.numbers.specs.Inner.Shortest.{shortest}
+use Rattle.numbers.specs.Shortest.{shortest}
 use Rattle.numbers.proofs.Shortest.{shortest-whole}
 use Rattle.records.specs.Nodes.{tableRead}
 use Rattle.records.specs.Reading.{readingOf}
 use Rattle.records.specs.Expected.{Due, range, Next, after, Expects}
 use Rattle.records.specs.Expected.Due.{edition, id, period, count, execution, parentCount, parent}
 use Rattle.records.specs.Expected.Next.{number, nothing}
 use Rattle.records.specs.Expected.Expects.{begin, on}
-use Rattle.records.specs.Inner.Written.{numbersWritten}
+use Rattle.writers.specs.Record.{numbersWritten}
 use Rattle.records.proofs.Expected.{spelt-read}
 use Rattle.records.proofs.Answers.{Held, held}
 
 -- the numbers that follow where `Next` is expected: each in its range, and t is the table that they tell
 pub data Tells : Next → List ℕ → TaskTable → Type 0 where

@@ -1,4 +1,4 @@
--- Numbers as they are written: what the laws on reading again speak of.
+-- A number as it is written.
 use Prim.Native.Nat.{ℕ, zero, suc, _+_, _/_, _%_, _<_}
 use mathlib.Core.List.{List, [], _∷_}
 use lib.Dec.{ltb}
@@ -9,7 +9,8 @@ use Rattle.plain.specs.Pick.{pick}
 abbrev pub Bytes : List ℕ → Type 0
 Bytes s = (k : ℕ) → at s k < 256
 
--- "So 128 is 80 01, and 16,777,215 is FF FF FF 07.": v as it is written, in shortest form
+-- "each with seven bits of value, lowest group first. The top bit is set in every byte but the last.", as few as it takes: v in shortest form, where it has
+-- at most `more` groups after its first; "So 128 is 80 01, and 16,777,215 is FF FF FF 07."
 unfoldable pub shortest : (more v : ℕ) → List ℕ
 shortest zero v = v ∷ []
 shortest (suc more) v = pick (ltb v 128) (v ∷ []) ((128 + v % 128) ∷ shortest more (v / 128))

@@ -16,34 +16,30 @@ use borrow.Author.Tests.{ltb-false}
 use Rattle.plain.specs.Pick.{pick}
 use Rattle.plain.specs.At.{at}
 use Rattle.sets.specs.Member.{bit}
-use Rattle.sets.specs.Inner.Members.{only, members}
-use Rattle.sets.proofs.Bits.{bit-zero, bit-put-same, bit-put-other, mem-lt, mem-or}
+use Rattle.sets.specs.Members.{only, members}
+use Rattle.sets.proofs.Walks.{no-members}
+use Rattle.sets.proofs.Bits.{bit-put-same, bit-put-other, mem-lt, mem-or}
 use Rattle.tables.specs.declared.TaskTable.{TaskTable}
 use Rattle.tables.specs.Limits.{countMax}
 use Rattle.numbers.specs.Number.{recordMore}
-use Rattle.numbers.specs.Inner.Shortest.{Bytes, shortest}
+use Rattle.numbers.specs.Shortest.{Bytes, shortest}
 use Rattle.numbers.proofs.Shortest.{form-shortest}
 use Rattle.records.specs.Nodes.{tableRead, withNode}
 use Rattle.records.specs.Reading.{headed, readingOf}
 use Rattle.records.specs.Expected.{Due, range, Next, nodeFrom, after, Expects}
 use Rattle.records.specs.Expected.Due.{edition, id, period, count, execution, parentCount, parent}
 use Rattle.records.specs.Expected.Next.{number, nothing}
 use Rattle.records.specs.Expected.Expects.{begin, on}
-use Rattle.records.specs.Inner.Written.{numbersWritten, nodeNumbers, numbersTo, recordOf, Full}
+use Rattle.writers.specs.Record.{numbersWritten, nodeNumbers, numbersTo, recordOf, Full}
 use Rattle.records.proofs.Expected.{read-spelt}
 use Rattle.records.proofs.Answers.{Filling, Held, held, whole-table}
-use Rattle.records.proofs.Written.{written-append}
+use Rattle.writers.proofs.Written.{written-append}
 
 -- no digit at or past the width is 1
 pub high-zero : (d k s : ℕ) → s < 2 ^ d → d ≤ k → bit k s ≡ 0
 high-zero d k s h l = ⊎-elim (λ m. absurd (omega (arith, mem-lt d k s h m))) (λ z. z) (mem-or k s)
 
--- the members of no set, and of a set with a number put in that is above them
-no-members : (d : ℕ) → members d 0 ≡ []
-unfolding members
-no-members zero = refl
-no-members (suc d) = rw (no-members d, bit-zero d)
-
+-- the members of a set with a number put in that is above them
 module _ (s v : ℕ) (h : s < 2 ^ v) where
   put-below : (d : ℕ) → d ≤ v → members d (s + 2 ^ v) ≡ members d s
   unfolding members

@@ -8,7 +8,7 @@ abbrev pub only : ℕ → ℕ → List ℕ
 only zero k = []
 only (suc b) k = k ∷ []
 
--- the members below d, ascending: the order in which a walk by trailing zeros meets them
+-- the members of s below d, ascending
 unfoldable pub members : ℕ → ℕ → List ℕ
 members zero s = []
 members (suc d) s = members d s ++ only (bit d s) d

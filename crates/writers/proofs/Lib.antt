@@ -1,0 +1,14 @@
+pub mod Cases
+pub mod Written
+pub mod Putting
+pub mod Parts
+pub mod Along
+pub mod Tried
+pub mod Stood
+pub mod Table
+pub mod Calls
+pub mod Stands
+pub mod Again
+pub mod Back
+pub mod Trip
+pub mod Longest

@@ -1,0 +1,5 @@
+pub mod Record
+pub mod Ranges
+pub mod Stands
+pub mod Writing
+pub mod Inner
