@@ -24,7 +24,7 @@ use Rattle.records.specs.Expected.{Due, range, Refuses}
 use Rattle.records.specs.Expected.Due.{edition, id, period, count, execution, parentCount, parent}
 use Rattle.records.specs.Expected.Refuses.{ends, long as too-long, padded, outside, follow, none-runs}
 use Rattle.records.proofs.Answers.{all-zero-edition, accepted-table, refused-table}
-use Rattle.records.proofs.Expected.{rule-refused, refused-rule, refused-told}
+use Rattle.records.proofs.Expected.{rule-refused, refused-rule, spelt-read, read-spelt, refused-told}
 use Rattle.writers.proofs.Trip.{spells, spelt}
 use Rattle.ways.specs.Reaches.{Reaches}
 use Rattle.ways.specs.Inner.Tidy.{Tidy}
@@ -76,6 +76,7 @@ reading = record {
   long = λ bytes place. (λ e. fault-of (refused-rule bytes (refusal 2 place) e .0) .0 refl, λ f. outcome-of (too-long (f .1) (f .2)));
   padded = λ bytes place. (λ e. fault-of (refused-rule bytes (refusal 18 place) e .0) .1 refl, λ f. outcome-of (padded (f .1) (f .2)));
   none-runs = λ bytes place. (λ e. fault-of (refused-rule bytes (refusal 21 place) e .0) .2 refl, λ (z, t, e, x, i). rw z (outcome-of (none-runs e i)));
+  accepts = λ bytes t. (read-spelt bytes t, spelt-read bytes);
   reads = λ bytes t b. (spells bytes t b, spelt bytes t);
   own = λ bytes number place f. let told = refused-told bytes (refusal number place) (outcome-of f) in (told .own, told .place);
   empty = refused-table;

@@ -18,7 +18,7 @@ use Rattle.records.specs.Reading.{readingOf}
 use Rattle.numbers.specs.Number.{recordMore}
 use Rattle.numbers.specs.Form.{Long, Padded}
 use Rattle.numbers.specs.Shortest.{Bytes}
-use Rattle.records.specs.Expected.{Due, Expects, Refuses}
+use Rattle.records.specs.Expected.{Due, Expects, Refuses, Spelt}
 use Rattle.records.specs.Expected.Next.{number, nothing}
 use Rattle.writers.specs.Record.{Spells}
 use Rattle.rings.specs.Ring.{ring}
@@ -65,7 +65,9 @@ pub record OfReading : Type 0 where
   pub padded : (bytes : List ℕ) (place : ℕ) → (readingOf bytes .outcome ≡ Refused (refusal 18 place)) ↔ Faulty (Padded recordMore) bytes place
   -- 21 exactly where no node runs
   pub none-runs : (bytes : List ℕ) (place : ℕ) → (readingOf bytes .outcome ≡ Refused (refusal 21 place)) ↔ NoneRuns bytes place
-  -- it reads a table exactly from the record that spells it: the bytes that are written of a table in range
+  -- it accepts a record exactly where its numbers are all fine and spell a table, of which some node runs
+  pub accepts : (bytes : List ℕ) (t : TaskTable) → (readingOf bytes ≡ tableRead t) ↔ Spelt bytes t
+  -- so it reads a table exactly from the record that spells it: the bytes that are written of a table in range
   pub reads : (bytes : List ℕ) (t : TaskTable) → Bytes bytes → (readingOf bytes ≡ tableRead t) ↔ Spells bytes t
   -- its refusals are its own numbers, at a byte of the record or at its end
   pub own : (bytes : List ℕ) (number place : ℕ) → Refuses bytes number place → (isReaders number ≡ true) × (place ≤ length bytes)

@@ -27,8 +27,7 @@ use Rattle.numbers.proofs.Cases.{clash}
 use Rattle.records.specs.declared.Reading.{Reading}
 use Rattle.records.specs.Nodes.{withNode}
 use Rattle.records.specs.Reading.{headed, readingOf}
-use Rattle.records.specs.Expected.{Due, range, Next, nodeFrom, after, Expects}
-use Rattle.records.specs.Inner.Spelt.{Spelt}
+use Rattle.records.specs.Expected.{Due, range, Next, nodeFrom, after, Expects, Spelt}
 use Rattle.records.specs.Expected.Due.{edition, id, period, count, execution, parentCount, parent}
 use Rattle.records.specs.Expected.Next.{number, nothing}
 use Rattle.records.specs.Expected.Expects.{begin, on}

@@ -34,8 +34,7 @@ use Rattle.records.specs.Ranged.{stepOf, whole, ranged}
 use Rattle.records.specs.Parents.{parents, parentSet}
 use Rattle.records.specs.Nodes.{tableRead, noTable, withNode, nothingFollows, nodes}
 use Rattle.records.specs.Reading.{headed, readingOf}
-use Rattle.records.specs.Expected.{Due, range, Next, nodeFrom, parentFrom, after, Expects, Refuses}
-use Rattle.records.specs.Inner.Spelt.{Spelt}
+use Rattle.records.specs.Expected.{Due, range, Next, nodeFrom, parentFrom, after, Expects, Refuses, Spelt}
 use Rattle.records.specs.Expected.Due.{edition, id, period, count, execution, parentCount, parent}
 use Rattle.records.specs.Expected.Next.{number, nothing}
 use Rattle.records.specs.Expected.Expects.{begin, on}

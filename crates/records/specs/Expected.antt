@@ -8,7 +8,7 @@ use Rattle.plain.specs.Pick.{pick}
 use Rattle.refusals.specs.Numbers.{ended, tooLong, badEdition, badId, badPeriod, badCount, badExecution, badParent, bytesFollow, notShortest, noneRuns}
 use Rattle.tables.specs.declared.TaskTable.{TaskTable}
 use Rattle.tables.specs.Limits.{editionMax, idMax, periodMax, countMax, executionMax, leastExecution}
-use Rattle.tables.specs.Runs.{AllZero}
+use Rattle.tables.specs.Runs.{AllZero, SomeRuns}
 use Rattle.numbers.specs.Number.{recordMore}
 use Rattle.numbers.specs.Form.{Whole, Ends, Long, Padded}
 use Rattle.records.specs.Nodes.{withNode}
@@ -77,3 +77,7 @@ pub data Refuses (bytes : List ℕ) : (number place : ℕ) → Type 0 where
   outside : {place v n : ℕ} {due : Due} → Expects bytes place (number due) → Whole recordMore (drop place bytes) v n → (v < range due .low) ⊎ (range due .high < v) → Refuses bytes (range due .broken) place
   follow : {place : ℕ} {t : TaskTable} → Expects bytes place (nothing t) → place < length bytes → Refuses bytes bytesFollow place
   none-runs : {t : TaskTable} → Expects bytes (length bytes) (nothing t) → AllZero t → Refuses bytes noneRuns 0
+
+-- every number is fine, "Nothing follows." and some node runs: t is the table that the numbers spell
+abbrev pub Spelt : List ℕ → (t : TaskTable) → Type 0
+Spelt bytes t = Expects bytes (length bytes) (nothing t) × SomeRuns t

@@ -26,12 +26,12 @@ first : (c : tie.After-write-number) → (let a = c .before .before .before .arg
     Wrote (now (a .bytes)) (a .from) (a .execution ∷ []) (c .write-number .last .0) (c .write-number .result))
 first c = wrote-number _ (omega (arith, c .before .before .before .pre .0)) (c .write-number .ensures .0) (c .write-number .ensures .1)
 
--- the parent count: at most 64
-many : (c : tie.After-size-of) → c .size-of .result < 128 ^ suc recordMore
-many c = rw (c .size-of .ensures) (omega (arith, size-full countMax (c .before .before .before .before .before .before .before .args .set)))
-
+-- the parent count, which is at most 64
 count : (c : tie.After-size-of) → c .size-of .result ≡ length (members countMax (c .before .before .before .before .before .before .before .args .set))
 count c = c .size-of .ensures ∙ sym (length-members countMax _)
+
+many : (c : tie.After-size-of) → c .size-of .result < 128 ^ suc recordMore
+many c = let s = c .before .before .before .before .before .before .before .args .set in omega (arith, count c, length-members countMax s, size-full countMax s)
 
 write-number-requires-2 : tie.Need-write-number-requires-2
 write-number-requires-2 c κs = let f = c .before .before .before .before in

@@ -117,11 +117,6 @@ enum-told-2 c = search needs
 answer-of-requires : tie.Need-answer-of-requires
 answer-of-requires c κs = search needs
 
-returns-2 : tie.Need-returns-2
-unfolding with-bytes start
-returns-2 c = let k = c .before .before .before in let e = c .before .enum-told2 .given .1 in
-    ap (with-bytes (now (start k .args .bytes))) (c .answer-of .ensures ∙ ap answerOf e) ∙ sym (call-refused _ _ _ _ _ _ (same k) _ (sym (ruled k) ∙ e))
-
 write-head-requires : tie.Need-write-head-requires
 unfolding start
 write-head-requires c κs = let k = c .before .before .before in let e = c .before .enum-told .given .1 in let h = head k e in
@@ -137,6 +132,11 @@ write-nodes-requires : tie.Need-write-nodes-requires
 unfolding start
 write-nodes-requires c κs = let w = c .before .before .before in let k = w .before .before .before .before in let e = w .before .before .enum-told .given .1 in
     ((same k, executions k e), omega (arith, room k e, wrote-length (headed w), w .write-head .ensures .0))
+
+returns-2 : tie.Need-returns-2
+unfolding with-bytes start
+returns-2 c = let k = c .before .before .before in let e = c .before .enum-told2 .given .1 in
+    ap (with-bytes (now (start k .args .bytes))) (c .answer-of .ensures ∙ ap answerOf e) ∙ sym (call-refused _ _ _ _ _ _ (same k) _ (sym (ruled k) ∙ e))
 
 accepted-requires : tie.Need-accepted-requires
 accepted-requires c κs = search needs

@@ -1,5 +1,5 @@
 -- A trial of a record's numbers, in the code's own steps.
-use Prim.Native.Nat.{ℕ, zero, suc, _+_}
+use Prim.Native.Nat.{ℕ, zero, suc, _+_, _*_}
 use mathlib.Core.Bool.{_&&_}
 use mathlib.Core.List.{List}
 use lib.ListN.{length}
@@ -15,18 +15,19 @@ use Rattle.numbers.specs.Shortest.{shortest}
 use Rattle.numbers.specs.Inner.Word.{wordMore}
 use Rattle.writers.specs.declared.Trial.{Trial}
 
--- a place up to which a trial may go on: no record is so long
-abbrev pub placeMax : ℕ
-placeMax = 1000000
-
--- more bytes than a node's numbers take, and than those before the nodes
+-- how far a node moves a trial on at most, and the four numbers before the nodes: two words, and a byte for each parent
 abbrev pub nodeMax : ℕ
-nodeMax = 100
+nodeMax = 2 * suc wordMore + countMax
 
--- a trial that came as far as a place, and one that stopped there
+-- no trial comes further: the numbers before the nodes, and every node
+abbrev pub placeMax : ℕ
+placeMax = nodeMax + countMax * nodeMax
+
+-- a trial that came as far as a place
 abbrev pub passed : (next : ℕ) → Trial
 passed next = record { outcome = Accepted; next = next }
 
+-- one that stopped at a place
 abbrev pub stopped : (number place : ℕ) → Trial
 stopped number place = record { outcome = Refused (refusal number place); next = place }
 
