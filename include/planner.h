@@ -1,4 +1,4 @@
-/* The planner's seven calls. A call returns for every content of what it is lent; a refusal changes nothing. The caller
+/* The planner's eight calls. A call returns for every content of what it is lent; a refusal changes nothing. The caller
  * sees to the memory, in each call:
  *   - A length is 64 bits on every machine. It counts bytes of a record, words of a plan, rows of a board, entries of a
  *     list.
@@ -6,8 +6,8 @@
  *   - The words, the rows, the lists and the memory that the answer is returned in are aligned to 8 bytes. Compilers for
  *     32-bit x86 align uint64_t to 4 unless told otherwise (gcc and clang: -malign-double). A record may begin at any
  *     byte, and so may the bytes for one.
- *   - Nothing that is lent overlaps: record, words and board are apart, so are the two lists and the bytes, and the
- *     returned answer is apart from them.
+ *   - Nothing that is lent overlaps: record, words and board are apart, so are the two lists and the bytes, so are the
+ *     given record and the bytes, and the returned answer is apart from them.
  *   - No other thread uses what is lent meanwhile. */
 #ifndef PLANNER_H
 #define PLANNER_H
@@ -61,6 +61,16 @@ struct planner_row {
     uint64_t over;
 };
 
+/* What planner_mend answers: an answer, and three counts over the given record, all 0 beside a refusal. padded: numbers
+ * that are not in their shortest form, those of dropped parents included. reordered: lists of parents that do not
+ * ascend, repeats after the first left out. dropped: parents that repeat an earlier one of their list. */
+struct planner_mending {
+    struct planner_answer answer;
+    uint64_t padded;
+    uint64_t reordered;
+    uint64_t dropped;
+};
+
 /* Plans the task of a record into words[0 .. 3 + 3s + 3n - 1]; words past these keep their content.
  *   words[0] Q, words[1] the segment count s, words[2] the node count n,
  *   then s times (threads, length, deadline numerator), then n times (offset numerator, deadline numerator, density).
@@ -111,5 +121,17 @@ struct planner_answer planner_write_record(const uint64_t *executions, uint64_t 
                                            const uint64_t *parents, uint64_t parents_length,
                                            uint8_t *bytes, uint64_t bytes_length,
                                            uint64_t edition, uint64_t id, uint64_t period);
+
+/* Mends a record that a sloppy editor wrote: writes it into bytes[0 .. value - 1] as it should be; bytes past these keep
+ * their content. In the given record a number may be in any form of up to four bytes (3 is 03, and 83 00 or 83 80 80 00
+ * as well), and the parents of a node may stand in any order, some more than once, up to 255 in a list. What is written
+ * has each number in its shortest form, and each node's parents ascending and once; nothing else is changed. A record
+ * that planner_plan can read comes back equal with three zeros, so mending again changes nothing. given and bytes do
+ * not overlap. A buffer of PLANNER_RECORD_BYTES is never too short.
+ * value: the number of bytes written. Refusals, in this order: as met from the left, each number read whole before its
+ * range is tried, 1 to 7, 8 at a parent count above 255, 8 at a parent that is no node, and 9; 21; 19 at bytes_length
+ * (too few bytes). There is no 18. Loops and long paths are left to planning. */
+struct planner_mending planner_mend(const uint8_t *given, uint64_t given_length,
+                                    uint8_t *bytes, uint64_t bytes_length);
 
 #endif

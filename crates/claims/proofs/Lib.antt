@@ -8,6 +8,7 @@ pub mod Note
 pub mod Withdraw
 pub mod Ask
 pub mod Write
+pub mod Mend
 pub mod Admit
 pub mod Print
 pub mod Diagram

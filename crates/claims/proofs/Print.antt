@@ -27,6 +27,7 @@ use Rattle.sheets.specs.Lines.{refusedLine}
 use Rattle.sheets.specs.Sheet.{sheetMax}
 use Rattle.sheets.specs.Printed.{headOf, tableSheet, sheetOf, printed}
 use Rattle.sheets.proofs.Sizes.{sheet-fits, refusal-fits}
+use Rattle.mendlines.proofs.Lines.{line-counts, line-refusal, line-fits}
 use Rattle.claims.specs.Rule.{IsAccepted}
 use Rattle.claims.specs.Print.{OfPrinting}
 use Rattle.claims.proofs.Record.{unread-some}
@@ -80,4 +81,7 @@ of-printing = record {
   fits = λ bytes. fits bytes (tasking refusedLine tableSheet bytes 0 (omega arith));
   written = λ bytes out h. front (sheetOf bytes) out h;
   untouched = λ bytes out h. rw (lt-ltb (length out) sheetMax h);
+  mend-counts = line-counts;
+  mend-refusal = line-refusal;
+  mend-fits = line-fits;
 }

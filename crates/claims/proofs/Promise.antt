@@ -21,3 +21,14 @@ promised call rules value singles alone decided untouched written = record {
   untouched = λ a e. rw e untouched;
   written = λ a e. rw e written;
 }
+
+-- and so of a call that allows no more
+pub narrowed : {Lent : Type 0} {allows fewer : After Lent → Type 0} {lent : Lent} {rules : List Rule} {value : ℕ → Type 0} {left : ℕ → Lent} →
+    ((a : After Lent) → fewer a → allows a) → Promise allows lent rules value left → Promise fewer lent rules value left
+narrowed f p = record {
+  one-answer = λ a b x y. p .one-answer a b (f a x) (f b y);
+  only-when = λ a x. p .only-when a (f a x);
+  empty-set = λ a x. p .empty-set a (f a x);
+  untouched = λ a x. p .untouched a (f a x);
+  written = λ a x. p .written a (f a x);
+}

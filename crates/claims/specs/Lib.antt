@@ -7,6 +7,7 @@ pub mod Note
 pub mod Withdraw
 pub mod Ask
 pub mod Write
+pub mod Mend
 pub mod ToEnd
 pub mod Admit
 pub mod Print

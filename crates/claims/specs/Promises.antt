@@ -7,6 +7,7 @@ use Rattle.claims.specs.Withdraw.{OfWithdrawing}
 use Rattle.claims.specs.Ask.{OfAsking}
 use Rattle.claims.specs.ToEnd.{OfAskingToEnd}
 use Rattle.claims.specs.Write.{OfWriting}
+use Rattle.claims.specs.Mend.{OfMending}
 use Rattle.claims.specs.Print.{OfPrinting}
 use Rattle.claims.specs.Diagram.{TablesTimed}
 use Rattle.claims.specs.Cost.{OfCost}
@@ -26,6 +27,7 @@ pub record Promises : Type 0 where
   pub asking : OfAsking
   pub asking-to-end : OfAskingToEnd
   pub writing : OfWriting
+  pub mending : OfMending
   pub printing : OfPrinting
   -- every loop-free table's starts, cuts and offsets are those of document 01
   pub tables-timed : TablesTimed

@@ -12,19 +12,29 @@ use borrow.Author.Tests.{lt-ltb, le-ltb}
 use Rattle.plain.proofs.Lists.{lt-or-ge}
 use Rattle.numbers.specs.declared.Number.the-variants.{Value, Ended, TooLong, NotShortest}
 use Rattle.numbers.specs.Number.{before, number}
-use Rattle.numbers.specs.Form.{Form, Led, Whole, Ends, Long, Padded}
+use Rattle.numbers.specs.Form.{Form, AnyForm, Led, Whole, Ends, Long, Padded}
 use Rattle.numbers.specs.Form.Form.{sole, first}
 use Rattle.numbers.specs.Form.Led.{none, byte}
 use Rattle.numbers.proofs.Cases.{clash, last, longer}
 
--- a form has a byte, and its bytes are of the list
+-- a form has a byte, and its bytes are of the list, whether or not it is the shortest
+pub any-some : {s : List ℕ} {v n : ℕ} → AnyForm s v n → 0 < n
+any-some (AnyForm.sole h) = omega arith
+any-some (AnyForm.first l r) = omega arith
+
+pub any-within : {s : List ℕ} {v n : ℕ} → AnyForm s v n → n ≤ length s
+any-within (AnyForm.sole h) = omega arith
+any-within (AnyForm.first l r) = suc-le-suc (any-within r)
+
+form-any : {s : List ℕ} {v n : ℕ} → Form s v n → AnyForm s v n
+form-any (sole h) = AnyForm.sole h
+form-any (first l z r) = AnyForm.first l (form-any r)
+
 pub form-some : {s : List ℕ} {v n : ℕ} → Form s v n → 0 < n
-form-some (sole h) = omega arith
-form-some (first l z r) = omega arith
+form-some f = any-some (form-any f)
 
 pub form-within : {s : List ℕ} {v n : ℕ} → Form s v n → n ≤ length s
-form-within (sole h) = omega arith
-form-within (first l z r) = suc-le-suc (form-within r)
+form-within f = any-within (form-any f)
 
 -- what the reader tells of each
 pub whole-read : (more : ℕ) {s : List ℕ} {v n : ℕ} → Form s v n → n ≤ suc more → number more s ≡ Value v n
@@ -55,6 +65,23 @@ padded-read (suc more) {rest = rest} (byte {b} l none) z h =
 padded-read (suc more) (byte {b} l (byte l′ r)) z h =
     let p = padded-read more (byte l′ r) (omega arith) (le-of-suc-le-suc h) in
     (b % 128 + 128 * p .0, p .1 + 1, rw (le-ltb b 128 l, p .2))
+
+-- a padded one has its bytes' worth, and is told with it
+pub padded-worth : {k : ℕ} {s rest : List ℕ} → Led k s (0 ∷ rest) → (v : ℕ) × AnyForm s v (suc k)
+padded-worth none = (0, AnyForm.sole {b = 0} (omega arith))
+padded-worth (byte {b} l r) = let w = padded-worth r in (b % 128 + 128 * w .0, AnyForm.first l (w .1))
+
+pub padded-told : (more : ℕ) {k : ℕ} {s rest : List ℕ} {v n : ℕ} → Led k s (0 ∷ rest) → 0 < k → k ≤ more → AnyForm s v n → number more s ≡ NotShortest v n
+unfolding number before
+padded-told more none z h f = absurd (omega arith)
+padded-told zero (byte l r) z h f = absurd (omega arith)
+padded-told (suc more) (byte l r) z h (AnyForm.sole q) = absurd (omega arith)
+padded-told (suc more) {rest = rest} (byte {b} l none) z h (AnyForm.first _ (AnyForm.sole q)) =
+    let worth : b % 128 ≡ b % 128 + 128 * 0 = omega arith in
+    rw (le-ltb b 128 l, last more (0 ∷ rest) 0 (omega arith) refl (omega arith)) (ap (λ (v : ℕ). NotShortest v 2) worth)
+padded-told (suc more) (byte l none) z h (AnyForm.first _ (AnyForm.first q f)) = absurd (omega arith)
+padded-told (suc more) (byte {b} l (byte l′ r)) z h (AnyForm.first {v = v} {n = n} _ f) =
+    rw (le-ltb b 128 l, padded-told more (byte l′ r) (omega arith) (le-of-suc-le-suc h) f) (ap (NotShortest (b % 128 + 128 * v)) (add-one n))
 
 -- one of the four is there
 pub data Found (more : ℕ) (s : List ℕ) : Type 0 where

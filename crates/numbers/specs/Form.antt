@@ -8,6 +8,11 @@ pub data Form : List ℕ → ℕ → ℕ → Type 0 where
   sole : {b : ℕ} {s : List ℕ} → b < 128 → Form (b ∷ s) b 1
   first : {b : ℕ} {s : List ℕ} {v n : ℕ} → 128 ≤ b → 0 < v → Form s v n → Form (b ∷ s) (b % 128 + 128 * v) (suc n)
 
+-- n bytes that are worth v, whether or not fewer would do: the shortest form's rule left out
+pub data AnyForm : List ℕ → ℕ → ℕ → Type 0 where
+  sole : {b : ℕ} {s : List ℕ} → b < 128 → AnyForm (b ∷ s) b 1
+  first : {b : ℕ} {s : List ℕ} {v n : ℕ} → 128 ≤ b → AnyForm s v n → AnyForm (b ∷ s) (b % 128 + 128 * v) (suc n)
+
 -- k bytes with their top bit set, and then `rest`
 pub data Led : ℕ → List ℕ → List ℕ → Type 0 where
   none : {rest : List ℕ} → Led 0 rest rest

@@ -6,6 +6,7 @@ use Rattle.refusals.specs.After.{After}
 use Rattle.boards.specs.declared.Row.{Row}
 use Rattle.plans.specs.Calls.{planCall}
 use Rattle.writers.specs.Writing.{writeCall}
+use Rattle.menders.specs.Mending.{Mended, mendCall}
 use Rattle.planner.specs.Calls.{Lent, noteCall, admitCall, withdrawCall, askCall, askToEndCall}
 
 -- planning: its answer, and the words after it
@@ -35,3 +36,7 @@ AskToEndAllows rows cores after = after ≡ askToEndCall rows cores
 -- writing a record: its answer, and the bytes after it
 abbrev pub WriteAllows : (executions parents bytes : List ℕ) (edition id period : ℕ) → After (List ℕ) → Type 0
 WriteAllows executions parents bytes edition id period after = after ≡ writeCall executions parents bytes edition id period
+
+-- mending a record: its answer, the bytes after it, and the counts
+abbrev pub MendAllows : (given bytes : List ℕ) → Mended → Type 0
+MendAllows given bytes mended = mended ≡ mendCall given bytes

@@ -3,13 +3,14 @@ use boards::Board;
 use boards::Change;
 use boards::ROWS;
 use boards::Row;
+use menders::Mending;
 use refusals::Answer;
 ghost use mathlib.Core.Path.{_≡_};
 ghost use Prim.Native.Nat.{_<_};
 ghost use lib.ListN.{length};
 ghost use Rattle.boards.specs.Row.{rowsMax};
 ghost use Rattle.boards.specs.Change.{changed};
-ghost use Rattle.planner.specs.Allows.{PlanAllows, NoteAllows, AdmitAllows, WithdrawAllows, AskAllows, AskToEndAllows, WriteAllows};
+ghost use Rattle.planner.specs.Allows.{PlanAllows, NoteAllows, AdmitAllows, WithdrawAllows, AskAllows, AskToEndAllows, WriteAllows, MendAllows};
 
 // The lent rows, by value.
 fn rows_of(board: &[Row]) -> Board
@@ -125,4 +126,12 @@ pub extern "C" fn planner_write_record(
     ensures { λ r. ⌜ WriteAllows (now (executions .entry)) (now (parents .entry)) (now (bytes .entry)) edition id period (record { answer = r; lent = now (bytes .exit) }) ⌝ }
 {
     writers::write_record(executions, parents, bytes, edition, id, period)
+}
+
+// Mends the record that a sloppy editor wrote; the value is the number of bytes, and three counts stand beside the answer.
+#[no_mangle]
+pub extern "C" fn planner_mend(given: &[u8], bytes: &mut [u8]) -> Mending
+    ensures { λ r. ⌜ MendAllows (now (given .entry)) (now (bytes .entry)) (record { after = record { answer = r .answer; lent = now (bytes .exit) }; counts = r .counts }) ⌝ }
+{
+    menders::mend(given, bytes)
 }

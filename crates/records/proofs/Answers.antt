@@ -76,8 +76,11 @@ pub record Filling (i : ℕ) (t : TaskTable) : Type 0 where
   pub executions : Part (In (execution t i)) i (t .execution)
   pub sets : Part (λ w. w < 2 ^ t .count) i (t .parents)
 
--- after one more, and after the last
-filling-more : (i : ℕ) (t : TaskTable) (e w : ℕ) → i < t .count → In (execution t i) e → w < 2 ^ t .count → Filling i t → Filling (i + 1) (withNode t i e w)
+-- before the first, after one more, and after the last
+pub filling-none : (x d p n : ℕ) → Head x d p → In (count x d p) n → Filling 0 (headed x d p n)
+filling-none x d p n h b = record { head = h; size = b; executions = part-none _; sets = part-none _ }
+
+pub filling-more : (i : ℕ) (t : TaskTable) (e w : ℕ) → i < t .count → In (execution t i) e → w < 2 ^ t .count → Filling i t → Filling (i + 1) (withNode t i e w)
 filling-more i t e w h p q f = record {
   head = f .head;
   size = f .size;
@@ -85,7 +88,7 @@ filling-more i t e w h p q f = record {
   sets = part-more w (omega (arith, f .size)) q (f .sets);
 }
 
-filling-all : (t : TaskTable) → SomeRuns t → Filling (t .count) t → InRange t
+pub filling-all : (t : TaskTable) → SomeRuns t → Filling (t .count) t → InRange t
 filling-all t runs f = record {
   edition-low = f .head .0 .0;
   edition-high = f .head .0 .1;
@@ -133,7 +136,7 @@ after-held edition v l h b = (l, h)
 after-held (id x) v l h b = (b, (l, h))
 after-held (period x d) v l h b = (b .0, b .1, (l, h))
 after-held (count x d p) v l h b =
-    node-held (headed x d p v) 0 (omega arith) (record { head = b; size = (l, h); executions = part-none _; sets = part-none _ })
+    node-held (headed x d p v) 0 (omega arith) (filling-none x d p v b (l, h))
 after-held (execution t i) v l h b = (b .0, b .1, (l, h))
 after-held (parentCount t i e) zero l h b = last-held t i e 0 (b .0) (b .1) (b .2) (pow-pos (t .count))
 after-held (parentCount t i e) (suc k) l h b = (b .0, b .1, b .2, omega arith, omega arith)

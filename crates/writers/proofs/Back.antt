@@ -1,4 +1,4 @@
--- What is written of a table in range is read as that table: its numbers are in range one after the other, and put the same entries into a
+-- What is written of a table whose nodes are filled in is read as that table: its numbers are in range one after the other, and put the same entries into a
 -- table that begins empty.
 use Prim.Native.Nat.{ℕ, zero, suc, _+_, _^_, _≤_, _<_, zero-le}
 use mathlib.Core.Path.{_≡_, refl, sym, ap₂, _∙_}
@@ -20,12 +20,14 @@ use Rattle.sets.proofs.Rule.{bit-past, bit-set}
 use Rattle.tables.specs.declared.TaskTable.{TaskTable}
 use Rattle.tables.specs.Limits.{countMax, executionMax, leastExecution}
 use Rattle.tables.specs.Range.{InRange}
+use Rattle.tables.specs.Runs.{SomeRuns}
 use Rattle.refusals.specs.declared.Outcome.the-variants.{Accepted}
 use Rattle.records.specs.Nodes.{tableRead, withNode}
 use Rattle.records.specs.Reading.{readingOf}
 use Rattle.records.specs.Expected.{Next, nodeFrom}
 use Rattle.records.specs.Expected.Due.{edition, id, period, count, execution}
 use Rattle.records.specs.Expected.Next.{number}
+use Rattle.records.proofs.Answers.{Filling}
 use Rattle.writers.specs.Record.{nodeNumbers, numbersTo, numbersOf, recordOf, Full}
 use Rattle.writers.specs.Ranges.{rangesFrom, ranges}
 use Rattle.writers.proofs.Written.{Tells, written-read}
@@ -91,24 +93,34 @@ fillTo-all l n h e past = let f = fillTo-filled l n h in
 soFar : TaskTable → ℕ → TaskTable
 soFar t i = record { edition = t .edition; id = t .id; period = t .period; count = t .count; execution = fillTo (t .execution) i; parents = fillTo (t .parents) i }
 
-module _ (t : TaskTable) (r : InRange t) (h : Full t) where
+-- a table in range is one whose nodes are all filled in
+pub range-filling : (t : TaskTable) → InRange t → Full t → Filling (t .count) t
+range-filling t r h = record {
+  head = ((r .edition-low, r .edition-high), (r .id-low, r .id-high), (r .period-low, r .period-high));
+  size = (r .count-low, r .count-high);
+  executions = record { size = h .0; done = λ v l. (r .execution-low v l, r .execution-high v); rest = r .execution-past };
+  sets = record { size = h .1; done = λ v l. r .parents-below v; rest = r .parents-past };
+}
+
+module _ (t : TaskTable) (f : Filling (t .count) t) where
   tells-from : (i : ℕ) → i ≤ t .count → (ws : List ℕ) → Tells (nodeFrom (soFar t i) i) ws t → Tells (number edition) (numbersTo t i ++ ws) t
   unfolding numbersTo soFar fillTo
-  tells-from zero l ws p =
-      one (r .edition-low) (r .edition-high) (one (r .id-low) (r .id-high) (one (r .period-low) (r .period-high) (one (r .count-low) (r .count-high) p)))
+  tells-from zero l ws p = let h = f .head in
+      one (h .0 .0) (h .0 .1) (one (h .1 .0) (h .1 .1) (one (h .2 .0) (h .2 .1) (one (f .size .0) (f .size .1) p)))
   tells-from (suc i) l ws p =
       let e = at (t .execution) i in let w = at (t .parents) i in
-      let q = tells-node (soFar t i) t i e w ws (r .count-high) (r .parents-below i) (r .execution-low i l) (r .execution-high i) (rw (add-one i) p) in
+      let b = f .executions .done i l in
+      let q = tells-node (soFar t i) t i e w ws (f .size .1) (f .sets .done i l) (b .0) (b .1) (rw (add-one i) p) in
       rw (append-assoc (numbersTo t i) (nodeNumbers e w) ws)
       (tells-from i (omega arith) (nodeNumbers e w ++ ws) (rw (lt-ltb i (t .count) l) q))
 
   soFar-all : soFar t (t .count) ≡ t
   unfolding soFar
   soFar-all = ap₂ (λ (a b : List ℕ). record { edition = t .edition; id = t .id; period = t .period; count = t .count; execution = a; parents = b })
-      (fillTo-all (t .execution) (t .count) (r .count-high) (h .0) (r .execution-past))
-      (fillTo-all (t .parents) (t .count) (r .count-high) (h .1) (r .parents-past))
+      (fillTo-all (t .execution) (t .count) (f .size .1) (f .executions .size) (f .executions .rest))
+      (fillTo-all (t .parents) (t .count) (f .size .1) (f .sets .size) (f .sets .rest))
 
-  -- its numbers tell it, so they are all in range, and a table in range reads back
+  -- its numbers tell it, so they are all in range, and where some node runs it reads back
   record-tells : Tells (number edition) (numbersOf t) t
   record-tells =
       let last : Tells (nodeFrom t (t .count)) [] t = rw (le-ltb (t .count) (t .count) (le-refl (t .count))) end in
@@ -117,5 +129,5 @@ module _ (t : TaskTable) (r : InRange t) (h : Full t) where
   pub table-ranges : ranges (numbersOf t) ≡ Accepted
   table-ranges = tells-ranges 0 record-tells
 
-  pub record-read : readingOf (recordOf t) ≡ tableRead t
-  record-read = written-read _ t record-tells (r .some-runs)
+  pub record-read : SomeRuns t → readingOf (recordOf t) ≡ tableRead t
+  record-read runs = written-read _ t record-tells runs

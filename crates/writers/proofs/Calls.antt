@@ -89,7 +89,7 @@ module _ (X P b : List ℕ) (x d p : ℕ) where
   call-unequal n = simp (ne-eqb _ _ n)
 
   module _ (same : length X ≡ length P) where
-    call-writing : writeCall X P b x d p ≡ writing (tableOf X P x d p) b
+    pub call-writing : writeCall X P b x d p ≡ writing (tableOf X P x d p) b
     unfolding writeCall
     call-writing = simp (eq-eqb _ _ same)
 

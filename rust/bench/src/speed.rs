@@ -30,8 +30,10 @@ pub fn print() {
     withdrawal(copy);
     asking();
     let (written, read) = writing();
+    let mended = mending();
     guard(&noted, &admitted);
     both_ways(written, read);
+    mended_over(mended, written, read);
 }
 
 /// The names' column.
@@ -301,5 +303,43 @@ fn both_ways(written: (f64, f64), read: (f64, f64)) {
     println!("the time to write the longest record over the time to read it");
     println!("{:NAMES$}{:>9}{:>11}", "", "library", "reference");
     let (library, reference) = (written.0 / read.0, written.1 / read.1);
+    println!("{:NAMES$}{library:9.2}{reference:11.2}", "64 nodes");
+}
+
+/// The longest record's times, in which there is nothing to mend; and the times
+/// of the longest that is mended.
+fn mending() -> (f64, f64) {
+    let record = Task::longest().record();
+    let mended = mend_times(&record);
+    let name = format!("mend {} bytes, nothing to mend", record.len());
+    line(&name, mended);
+    let given = Task::longest_given();
+    let name = format!("mend {} bytes into {}", given.len(), record.len());
+    line(&name, mend_times(&given));
+    mended
+}
+
+fn mend_times(given: &[u8]) -> (f64, f64) {
+    let mut bytes = [Aligned([0; LONGEST]); 2];
+    let [Aligned(library), Aligned(reference)] = &mut bytes;
+    // A refusal would be over sooner.
+    let mending = ffi::mend(given, library);
+    assert_eq!(mending.answer.value, LONGEST as u64);
+    pair(
+        || {
+            black_box(ffi::mend(black_box(given), black_box(library)));
+        },
+        || {
+            black_box(reference::mend(black_box(given), black_box(reference)));
+        },
+    )
+}
+
+fn mended_over(mended: (f64, f64), written: (f64, f64), read: (f64, f64)) {
+    println!();
+    println!("the time to mend the longest record over the times to read and to write it");
+    println!("{:NAMES$}{:>9}{:>11}", "", "library", "reference");
+    let library = mended.0 / (read.0 + written.0);
+    let reference = mended.1 / (read.1 + written.1);
     println!("{:NAMES$}{library:9.2}{reference:11.2}", "64 nodes");
 }

@@ -6,7 +6,7 @@ use crate::setup::{
     board, half_joins, lists, roomy_record, Aligned, CORES, COST, LONGEST, RING, SHAPES,
 };
 use ffi::task::Task;
-use reference::{Answer, Row, PLAN_WORDS};
+use reference::{Answer, Mending, Row, PLAN_WORDS};
 use std::hint::black_box;
 use std::ptr;
 use std::thread;
@@ -31,7 +31,7 @@ pub fn print() {
     println!("stack in bytes, with the small frame that makes the call; for plan, note and");
     println!("admit the deepest of 64 nodes in each shape, a chain half of joins, the ring and");
     println!("the longest record, at cost {COST}; admit is for {CORES} cores, which have room;");
-    println!("write is of the longest record");
+    println!("write is of the longest record, mend of that and of the longest that is mended");
     println!("{:42}{:>9}{:>11}", "", "library", "reference");
     let with_id = |(shape, id)| roomy_record(shape, 64, id);
     let shapes = SHAPES.into_iter().chain([RING]);
@@ -41,6 +41,7 @@ pub fn print() {
     put_depths(&records);
     board_depths();
     write_depths();
+    line("mend", mend_depth(ffi::mend), mend_depth(reference::mend));
     if cfg!(target_arch = "x86_64") {
         step_depth();
     }
@@ -160,6 +161,16 @@ fn write_depths() {
     });
     assert_eq!(bytes[..], task.record());
     line("write", library, reference);
+}
+
+fn mend_depth(mend: impl Fn(&[u8], &mut [u8]) -> Mending + Send + Sync) -> usize {
+    let longest = Task::longest().record();
+    let mut bytes = [0; LONGEST];
+    let depth = deepest(&[longest.clone(), Task::longest_given()], |given| {
+        black_box(mend(given, black_box(&mut bytes)));
+    });
+    assert_eq!(bytes[..], longest);
+    depth
 }
 
 fn deepest(records: &[Vec<u8>], mut call: impl FnMut(&[u8]) + Send) -> usize {

@@ -2,9 +2,9 @@
 //! the library and by the reference, each on its own copy.
 
 use crate::guarded::{self, Buffers, Guard};
-use crate::writing::Writing;
-use crate::{rounds, sales, written};
-use reference::{Answer, Row};
+use crate::writing::{old_bytes, Writing};
+use crate::{mended, rounds, sales, written};
+use reference::{Answer, Mending, Row};
 
 #[derive(Clone, PartialEq)]
 pub enum Call {
@@ -20,6 +20,11 @@ pub enum Call {
     Ask(u64),
     AskToEnd(u64),
     Write(Writing),
+    /// A record, and the number of bytes lent.
+    Mend {
+        given: Vec<u8>,
+        lent: u64,
+    },
 }
 
 impl Call {
@@ -47,9 +52,10 @@ impl Call {
     /// The record that the call reads, if it reads one.
     pub fn record(&self) -> Option<&[u8]> {
         match self {
-            Call::Plan(record, _) | Call::Note(record, _) | Call::Admit { record, .. } => {
-                Some(record)
-            }
+            Call::Plan(record, _)
+            | Call::Note(record, _)
+            | Call::Admit { record, .. }
+            | Call::Mend { given: record, .. } => Some(record),
             Call::Withdraw(_) | Call::Ask(_) | Call::AskToEnd(_) | Call::Write(_) => None,
         }
     }
@@ -63,30 +69,30 @@ pub struct Case {
 }
 
 impl Case {
-    /// Needs neither words nor a board.
-    pub fn write(writing: Writing) -> Case {
+    /// Of a call that needs neither words nor a board.
+    pub fn alone(call: Call) -> Case {
         Case {
             words: vec![],
             board: vec![],
-            calls: vec![Call::Write(writing)],
+            calls: vec![call],
         }
     }
 }
 
 /// The first call after which the two sides aren't equal, or the library's
-/// answer breaks a rule of loops, of admitting or of writing, or a promise of the
-/// sales sheet.
+/// answer breaks a rule of loops, of admitting, of writing or of mending, or a
+/// promise of the sales sheet.
 pub struct Difference {
     pub call: usize,
-    pub library: Answer,
-    pub reference: Answer,
+    pub library: Mending,
+    pub reference: Mending,
     /// The first differing word, row or byte, if it is in a buffer.
     pub spot: Option<String>,
     /// The rule or promise that the library's answer breaks.
     pub broken: Option<&'static str>,
 }
 
-/// The seven calls of one side.
+/// The eight calls of one side.
 struct Planner {
     plan: fn(&[u8], &mut [u64], u64) -> Answer,
     note: fn(&[u8], &mut [u64], &mut [Row], u64) -> Answer,
@@ -95,6 +101,7 @@ struct Planner {
     ask: fn(&[Row], u64) -> Answer,
     ask_to_end: fn(&[Row], u64) -> Answer,
     write_record: fn(&[u64], &[u64], &mut [u8], u64, u64, u64) -> Answer,
+    mend: fn(&[u8], &mut [u8]) -> Mending,
 }
 
 const LIBRARY: Planner = Planner {
@@ -105,6 +112,7 @@ const LIBRARY: Planner = Planner {
     ask: ffi::ask,
     ask_to_end: ffi::ask_to_end,
     write_record: ffi::write_record,
+    mend: ffi::mend,
 };
 
 const REFERENCE: Planner = Planner {
@@ -115,6 +123,7 @@ const REFERENCE: Planner = Planner {
     ask: reference::ask,
     ask_to_end: reference::ask_to_end,
     write_record: reference::write_record,
+    mend: reference::mend,
 };
 
 /// What is counted over the calls, where nothing differs.
@@ -122,42 +131,45 @@ const REFERENCE: Planner = Planner {
 pub struct Tally {
     pub guarded: guarded::Tally,
     pub written: written::Tally,
+    pub mended: mended::Tally,
 }
 
 impl Tally {
     pub fn add(&mut self, other: &Tally) {
         self.guarded.add(&other.guarded);
         self.written.add(&other.written);
+        self.mended.add(&other.mended);
     }
 }
 
-pub fn difference(case: &Case) -> Option<Difference> {
+pub fn difference(case: &Case) -> Option<Box<Difference>> {
     compared(case).err()
 }
 
-pub fn compared(case: &Case) -> Result<Tally, Difference> {
+pub fn compared(case: &Case) -> Result<Tally, Box<Difference>> {
     let mut library = Lent::new(case);
     let mut reference = Lent::new(case);
     let mut guard = Guard::of(&case.board);
     let mut tally = Tally::default();
     for (at, call) in case.calls.iter().enumerate() {
         let before = library.clone();
-        let library_answer = library.make(call, &LIBRARY);
-        let reference_answer = reference.make(call, &REFERENCE);
+        let ours = library.make(call, &LIBRARY);
+        let theirs = reference.make(call, &REFERENCE);
         let broken = library
-            .broken(call, &library_answer, &before)
-            .or_else(|| guard.broken(call, &library_answer, library.board.content()));
-        if library_answer != reference_answer || library != reference || broken.is_some() {
-            return Err(Difference {
+            .broken(call, &ours, &before)
+            .or_else(|| guard.broken(call, &ours.answer, library.board.content()));
+        if ours != theirs || library != reference || broken.is_some() {
+            return Err(Box::new(Difference {
                 call: at,
-                library: library_answer,
-                reference: reference_answer,
+                library: ours,
+                reference: theirs,
                 spot: library.first_difference(&reference),
                 broken,
-            });
+            }));
         }
-        tally.guarded.count(call, &library_answer);
-        tally.written.count(call, &library_answer);
+        tally.guarded.count(call, &ours.answer);
+        tally.written.count(call, &ours.answer);
+        tally.mended.count(call, &ours);
     }
     Ok(tally)
 }
@@ -201,18 +213,23 @@ impl Lent {
         if let Some(record) = call.record() {
             self.record.refill(record);
         }
-        if let Call::Write(writing) = call {
-            self.executions.refill(&writing.executions);
-            self.parents.refill(&writing.parents);
-            self.bytes.refill(&writing.old_bytes());
+        match call {
+            Call::Write(writing) => {
+                self.executions.refill(&writing.executions);
+                self.parents.refill(&writing.parents);
+                self.bytes.refill(&old_bytes(writing.lent));
+            }
+            Call::Mend { lent, .. } => self.bytes.refill(&old_bytes(*lent)),
+            _ => (),
         }
     }
 
-    fn make(&mut self, call: &Call, by: &Planner) -> Answer {
+    /// Of a call that counts nothing, the counts are 0.
+    fn make(&mut self, call: &Call, by: &Planner) -> Mending {
         self.refill(call);
         let words = self.words.inside();
         let board = self.board.inside();
-        match *call {
+        let answer = match *call {
             Call::Plan(_, cost) => (by.plan)(self.record.inside(), words, cost),
             Call::Note(_, cost) => (by.note)(self.record.inside(), words, board, cost),
             Call::Admit { cores, cost, .. } => {
@@ -231,16 +248,23 @@ impl Lent {
                 let bytes = self.bytes.inside();
                 (by.write_record)(executions, parents, bytes, edition, id, period)
             }
+            Call::Mend { .. } => return (by.mend)(self.record.inside(), self.bytes.inside()),
+        };
+        Mending {
+            answer,
+            ..Mending::default()
         }
     }
 
     /// The first rule or promise that the answer breaks by itself.
-    fn broken(&self, call: &Call, answer: &Answer, before: &Lent) -> Option<&'static str> {
+    fn broken(&self, call: &Call, mending: &Mending, before: &Lent) -> Option<&'static str> {
+        let answer = &mending.answer;
         let board = self.board.content();
         rounds::broken(call, answer)
             .or_else(|| sales::broken(call, answer, board))
             .or_else(|| guarded::broken(call, answer, before.buffers(), self.buffers()))
             .or_else(|| written::broken(call, answer, self.bytes.content()))
+            .or_else(|| mended::broken(call, mending, self.bytes.content()))
     }
 
     fn buffers(&self) -> Buffers<'_> {

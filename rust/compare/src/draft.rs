@@ -1,14 +1,48 @@
-//! A record taken apart, whether it is a good one or not: for shrinking, and
-//! for the nodes that an answer speaks of.
+//! A record taken apart, whether it is a good one or not: for shrinking, for the
+//! nodes that an answer speaks of, and for what mending has to make of it.
 
-use ffi::task::{encoded, Node, Task};
+use ffi::task::{number, stretched};
+
+/// A number, and how many bytes it has more than it takes.
+#[derive(Clone, Copy)]
+pub struct Spelt {
+    pub value: u64,
+    pub padding: usize,
+}
+
+impl Spelt {
+    fn form(&self) -> Vec<u8> {
+        let shortest = number(self.value).len();
+        stretched(self.value, shortest + self.padding)
+    }
+}
+
+#[derive(Clone)]
+pub struct Node {
+    pub execution: Spelt,
+    /// Of the parent count.
+    count_padding: usize,
+    pub parents: Vec<Spelt>,
+}
+
+impl Node {
+    fn count(&self) -> Spelt {
+        Spelt {
+            value: self.parents.len() as u64,
+            padding: self.count_padding,
+        }
+    }
+}
 
 /// The nodes that could be read whole, and the bytes from there on.
 #[derive(Clone)]
 pub struct Draft {
-    pub task: Task,
-    /// By how much the written node count is above the nodes read.
-    missing: u64,
+    pub edition: Spelt,
+    pub id: Spelt,
+    pub period: Spelt,
+    /// The node count, which may be above the nodes read.
+    count: Spelt,
+    pub nodes: Vec<Node>,
     tail: Vec<u8>,
 }
 
@@ -21,42 +55,48 @@ impl Draft {
         let period = read_number(&mut rest)?;
         let count = read_number(&mut rest)?;
         let mut nodes = Vec::new();
-        while (nodes.len() as u64) < count {
+        while (nodes.len() as u64) < count.value {
             let Some(node) = read_node(&mut rest) else {
                 break;
             };
             nodes.push(node);
         }
         Some(Draft {
-            missing: count - nodes.len() as u64,
-            task: Task {
-                edition,
-                id,
-                period,
-                nodes,
-            },
+            edition,
+            id,
+            period,
+            count,
+            nodes,
             tail: rest.to_vec(),
         })
     }
 
     pub fn record(&self) -> Vec<u8> {
-        let mut numbers = self.task.numbers();
-        numbers[Task::COUNT_AT] += self.missing;
-        let mut record = encoded(&numbers);
+        let mut record: Vec<u8> = self.numbers().iter().flat_map(Spelt::form).collect();
         record.extend(&self.tail);
         record
     }
 
+    /// In the record's order.
+    pub fn numbers(&self) -> Vec<Spelt> {
+        let mut numbers = vec![self.edition, self.id, self.period, self.count];
+        for node in &self.nodes {
+            numbers.extend([node.execution, node.count()]);
+            numbers.extend(&node.parents);
+        }
+        numbers
+    }
+
     /// Drops nodes; later ones move up, in the parents too.
     pub fn drop_nodes(&mut self, first: usize, length: usize) {
-        let nodes = &mut self.task.nodes;
-        nodes.drain(first..first + length);
+        self.nodes.drain(first..first + length);
         let (first, length) = (first as u64, length as u64);
-        let stays = |parent: &u64| *parent < first || *parent >= first + length;
-        for Node { parents, .. } in nodes {
+        self.count.value -= length;
+        let stays = |parent: &Spelt| parent.value < first || parent.value >= first + length;
+        for Node { parents, .. } in &mut self.nodes {
             parents.retain(stays);
-            let later = parents.iter_mut().filter(|parent| **parent >= first);
-            later.for_each(|parent| *parent -= length);
+            let later = parents.iter_mut().filter(|parent| parent.value >= first);
+            later.for_each(|parent| parent.value -= length);
         }
     }
 }
@@ -66,16 +106,24 @@ fn read_node(rest: &mut &[u8]) -> Option<Node> {
     let mut ahead = *rest;
     let execution = read_number(&mut ahead)?;
     let count = read_number(&mut ahead)?;
-    let parents = (0..count).map(|_| read_number(&mut ahead));
+    let parents = (0..count.value).map(|_| read_number(&mut ahead));
     let parents = parents.collect::<Option<_>>()?;
     *rest = ahead;
-    Some(Node { execution, parents })
+    Some(Node {
+        execution,
+        count_padding: count.padding,
+        parents,
+    })
 }
 
-fn read_number(rest: &mut &[u8]) -> Option<u64> {
+fn read_number(rest: &mut &[u8]) -> Option<Spelt> {
     let last = rest.iter().take(4).position(|&byte| byte < 0x80)?;
     let (groups, after) = rest.split_at(last + 1);
     *rest = after;
     let value = |value, &byte: &u8| value << 7 | u64::from(byte & 0x7F);
-    Some(groups.iter().rev().fold(0, value))
+    let value = groups.iter().rev().fold(0, value);
+    Some(Spelt {
+        value,
+        padding: groups.len() - number(value).len(),
+    })
 }

@@ -12,6 +12,8 @@ use crate::fits::{guarded_call, tight_fit};
 use crate::joins::{self, sprinkle};
 use crate::lists::{self, any_writing};
 use crate::loops::drawings;
+use crate::mended;
+use crate::mending::{self, any_mending};
 use crate::random::Random;
 use crate::records::{
     bad_forms, half_joins, misspelt, plain_task, random_bytes, samples, short_lists, spoilt,
@@ -37,7 +39,7 @@ pub struct Run {
     wanted: u64,
     pub compared: u64,
     pub tally: Tally,
-    /// Records that were read, and written again.
+    /// Records that were read, and written and mended again.
     pub again: u64,
 }
 
@@ -86,6 +88,11 @@ impl Run {
         self.family("lengths to write", Run::lengths_to_write)?;
         self.family("counts to write", Run::counts_to_write)?;
         self.family("tables to write", Run::tables_to_write)?;
+        self.family("forms to mend", Run::forms_to_mend)?;
+        self.family("lists to mend", Run::lists_to_mend)?;
+        self.family("counts to mend", Run::counts_to_mend)?;
+        self.family("lengths to mend", Run::lengths_to_mend)?;
+        self.family("records to mend", Run::records_to_mend)?;
         self.family("by chance", Run::by_chance)
     }
 
@@ -103,26 +110,33 @@ impl Run {
     fn compare(&mut self, case: Case) -> Outcome {
         self.compared += case.calls.len() as u64;
         let Ok(tally) = compared(&case) else {
-            return Err(Found {
-                family: self.family,
-                case,
-            });
+            return Err(self.found(case));
         };
         self.tally.add(&tally);
         let mut records = case.calls.iter().filter_map(Call::record);
-        records.try_for_each(|record| self.write_again(record))
+        records.try_for_each(|record| self.give_again(record))
     }
 
-    /// A case of its own only where another record comes of it.
-    fn write_again(&mut self, record: &[u8]) -> Outcome {
+    fn found(&self, case: Case) -> Found {
+        Found {
+            family: self.family,
+            case,
+        }
+    }
+
+    /// Cases of their own only where another record comes of them.
+    fn give_again(&mut self, record: &[u8]) -> Outcome {
         let Some(writing) = written::again(record) else {
             return Ok(());
         };
         if !written::gives(&writing, record) {
-            return Err(Found {
-                family: self.family,
-                case: Case::write(writing),
-            });
+            return Err(self.found(Case::alone(Call::Write(writing))));
+        }
+        if !mended::gives(record) {
+            return Err(self.found(Case::alone(Call::Mend {
+                given: record.to_vec(),
+                lent: record.len() as u64,
+            })));
         }
         self.again += 1;
         Ok(())
@@ -173,7 +187,7 @@ impl Run {
 
     /// The task comes and goes, admitted for each number of cores.
     fn every_count(&mut self, record: &[u8]) -> Outcome {
-        let id = Draft::read(record).map_or(0, |draft| draft.task.id);
+        let id = Draft::read(record).map_or(0, |draft| draft.id.value);
         let visit = |cores| [Call::admit(record, cores, 0), Call::Withdraw(id)];
         let calls = (0..=66).chain([u64::MAX]).flat_map(visit).collect();
         self.on_board(free_board(), calls)
@@ -444,9 +458,13 @@ impl Run {
         self.on_board(board, calls)
     }
 
+    fn alone(&mut self, call: Call) -> Outcome {
+        self.compare(Case::alone(call))
+    }
+
     fn write_each(&mut self, writings: Vec<Writing>) -> Outcome {
-        let mut cases = writings.into_iter().map(Case::write);
-        cases.try_for_each(|case| self.compare(case))
+        let mut calls = writings.into_iter().map(Call::Write);
+        calls.try_for_each(|call| self.alone(call))
     }
 
     fn limits_to_write(&mut self) -> Outcome {
@@ -471,7 +489,36 @@ impl Run {
     fn tables_to_write(&mut self) -> Outcome {
         for _ in 0..20_000 {
             let writing = any_writing(&mut self.random);
-            self.compare(Case::write(writing))?;
+            self.alone(Call::Write(writing))?;
+        }
+        Ok(())
+    }
+
+    fn mend_each(&mut self, calls: fn(&mut Random) -> Vec<Call>) -> Outcome {
+        let mut calls = calls(&mut self.random).into_iter();
+        calls.try_for_each(|call| self.alone(call))
+    }
+
+    fn forms_to_mend(&mut self) -> Outcome {
+        self.mend_each(mending::forms)
+    }
+
+    fn lists_to_mend(&mut self) -> Outcome {
+        self.mend_each(mending::lists)
+    }
+
+    fn counts_to_mend(&mut self) -> Outcome {
+        self.mend_each(mending::counts)
+    }
+
+    fn lengths_to_mend(&mut self) -> Outcome {
+        self.mend_each(mending::lengths)
+    }
+
+    fn records_to_mend(&mut self) -> Outcome {
+        for _ in 0..10_000 {
+            let mending = any_mending(&mut self.random);
+            self.alone(mending)?;
         }
         Ok(())
     }
@@ -516,7 +563,11 @@ impl Run {
             }
             33..=40 => {
                 let writing = any_writing(random);
-                self.compare(Case::write(writing))
+                self.alone(Call::Write(writing))
+            }
+            41..=48 => {
+                let mending = any_mending(random);
+                self.alone(mending)
             }
             _ => {
                 let record = random_task(random, cost).record();

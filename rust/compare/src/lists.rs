@@ -13,12 +13,13 @@ const HUGE: [u64; 3] = [1 << 28, 1 << 32 | 1, u64::MAX];
 /// Each number of a few tasks in turn, at its limits and past them.
 pub fn limits(random: &mut Random) -> Vec<Writing> {
     let mut writings = Vec::new();
-    for writing in short(random).into_iter().chain([63, 64].map(full)) {
+    let short = short(random).into_iter().map(|task| Writing::of(&task));
+    for writing in short.chain([63, 64].map(full)) {
         for at in 0..writing.choices() {
             for value in values(at, writing.executions.len()) {
                 let mut changed = writing.clone();
                 changed.choose(at, value);
-                changed.lent = room(random, &changed);
+                changed.lent = room(random, changed.length());
                 writings.push(changed);
             }
         }
@@ -26,10 +27,11 @@ pub fn limits(random: &mut Random) -> Vec<Writing> {
     writings
 }
 
-fn short(random: &mut Random) -> Vec<Writing> {
+/// A few small tasks.
+pub fn short(random: &mut Random) -> Vec<Task> {
     let mut tasks: Vec<Task> = [1, 2, 3, 5].map(|count| task_of(random, count, 0)).into();
     tasks.extend([plain_task(dense(12)), half_joins(fork(16))]);
-    tasks.iter().map(Writing::of).collect()
+    tasks
 }
 
 /// So many nodes with all of them as parents, and every number at its limit.
@@ -83,9 +85,8 @@ fn all(count: usize) -> u64 {
     u64::MAX >> (64 - count)
 }
 
-/// Mostly enough, often just enough.
-fn room(random: &mut Random, writing: &Writing) -> u64 {
-    let length = writing.length();
+/// Mostly enough for a record of that length, often just enough.
+pub fn room(random: &mut Random, length: u64) -> u64 {
     let (less, more) = (random.below(length), length + random.below(20));
     random.pick(&[length, length, length + 1, more, 5_000, less, length - 1, 0])
 }
@@ -105,7 +106,7 @@ pub fn two_faults(random: &mut Random) -> Vec<Writing> {
                     for early in faults(earlier) {
                         let mut two = one.clone();
                         two.choose(earlier, early);
-                        two.lent = room(random, &two);
+                        two.lent = room(random, two.length());
                         writings.push(two);
                     }
                 }
@@ -146,7 +147,7 @@ pub fn lengths(random: &mut Random) -> Vec<Writing> {
                 let mut writing = Writing::of(&task);
                 writing.executions.resize(executions, 1);
                 writing.parents.resize(parents, 1);
-                writing.lent = room(random, &writing);
+                writing.lent = room(random, writing.length());
                 writings.push(writing);
             }
         }
@@ -154,7 +155,8 @@ pub fn lengths(random: &mut Random) -> Vec<Writing> {
     let mut many = Writing::of(&plain_task(chain(1)));
     many.choose(Writing::COUNT_AT, 1 << 16 | 1);
     writings.push(many);
-    for writing in short(random) {
+    for task in short(random) {
+        let writing = Writing::of(&task);
         writings.extend((0..writing.lent + 9).map(|lent| Writing {
             lent,
             ..writing.clone()
@@ -212,6 +214,6 @@ pub fn any_writing(random: &mut Random) -> Writing {
         let [one, other] = differing(&writing);
         writing = if random.one_in(2) { one } else { other };
     }
-    writing.lent = room(random, &writing);
+    writing.lent = room(random, writing.length());
     writing
 }

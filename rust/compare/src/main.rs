@@ -13,6 +13,8 @@ mod guarded;
 mod joins;
 mod lists;
 mod loops;
+mod mended;
+mod mending;
 mod random;
 mod records;
 mod report;
@@ -26,6 +28,7 @@ mod writing;
 mod written;
 
 use families::Run;
+use std::collections::BTreeMap;
 use std::env;
 use std::process::ExitCode;
 
@@ -94,8 +97,23 @@ fn print_tally(Run { tally, again, .. }: &Run) {
     let guarded::Tally { kept, turned_away } = tally.guarded;
     println!("of these, tasks admitted: {kept}, turned away by 20: {turned_away}");
     let written::Tally { written, refused } = &tally.written;
+    println!("records written: {written}, refused by{}", by(refused));
+    let mended::Tally {
+        mended,
+        sloppy,
+        padded,
+        reordered,
+        dropped,
+        refused,
+    } = &tally.mended;
+    println!("records mended: {mended}, refused by{}", by(refused));
+    print!("sloppy ones mended: {sloppy}, with numbers padded: {padded}, ");
+    println!("lists reordered: {reordered}, parents dropped: {dropped}");
+    println!("records read, then written and mended, byte for byte: {again}");
+}
+
+/// How often each number came.
+fn by(refused: &BTreeMap<u64, u64>) -> String {
     let by = |(number, count)| format!(" {number}: {count}");
-    let by: Vec<String> = refused.iter().map(by).collect();
-    println!("records written: {written}, refused by{}", by.join(","));
-    println!("records read and written again, byte for byte: {again}");
+    refused.iter().map(by).collect::<Vec<_>>().join(",")
 }

@@ -2,7 +2,7 @@
 
 use crate::random::Random;
 use crate::tasks::{random_task, task_of};
-use ffi::task::{chain, dense, encoded, fork, number, Node, Task};
+use ffi::task::{chain, dense, encoded, fork, number, stretched, Node, Task};
 
 /// Document 01's records, one whose child is listed first, and some of
 /// edition 2: a join first, last and between, no step at all, joins on a loop.
@@ -93,15 +93,8 @@ pub fn bad_forms(value: u64) -> Vec<Vec<u8>> {
 
 /// A number with groups of zeros after it, up to six bytes.
 fn padded(value: u64) -> Vec<Vec<u8>> {
-    let shortest = number(value);
-    let form = |length: usize| {
-        let mut form = shortest.clone();
-        form.resize(length, 0);
-        let (_, before) = form.split_last_mut().expect("lengths are above 0");
-        before.iter_mut().for_each(|byte| *byte |= 0x80);
-        form
-    };
-    (shortest.len() + 1..=6).map(form).collect()
+    let longer = number(value).len() + 1..=6;
+    longer.map(|bytes| stretched(value, bytes)).collect()
 }
 
 /// A record with one number in a bad form; sometimes it ends there.

@@ -3,7 +3,7 @@
 use crate::case::{difference, Call, Case};
 use crate::stored::Changed;
 use crate::writing::Writing;
-use reference::{Answer, Row};
+use reference::{Answer, Mending, Row};
 
 pub fn print(case: &Case) {
     println!("words: {}{}", case.words.len(), words(&case.words));
@@ -15,8 +15,9 @@ pub fn print(case: &Case) {
     for (at, call) in case.calls.iter().enumerate().take(found.call + 1) {
         println!("call {at}: {}", text(call));
     }
-    println!("  library:   {}", answer(&found.library));
-    println!("  reference: {}", answer(&found.reference));
+    let call = &case.calls[found.call];
+    println!("  library:   {}", said(call, &found.library));
+    println!("  reference: {}", said(call, &found.reference));
     if let Some(spot) = found.spot {
         println!("  {spot}");
     }
@@ -35,6 +36,21 @@ pub fn print_changed(Changed { stored, now, at }: &Changed) {
     );
     println!("  stored: {}", stored.get(*at).unwrap_or(&"no line"));
     println!("  now:    {}", now.get(*at).map_or("no line", |line| line));
+}
+
+/// With the counts, where the call has any.
+fn said(call: &Call, mending: &Mending) -> String {
+    let mut said = answer(&mending.answer);
+    if let Call::Mend { .. } = call {
+        let Mending {
+            padded,
+            reordered,
+            dropped,
+            ..
+        } = mending;
+        said += &format!(" padded {padded} reordered {reordered} dropped {dropped}");
+    }
+    said
 }
 
 fn answer(answer: &Answer) -> String {
@@ -61,6 +77,7 @@ fn text(call: &Call) -> String {
         Call::Ask(cores) => format!("ask {cores}"),
         Call::AskToEnd(cores) => format!("ask to the end {cores}"),
         Call::Write(writing) => writing_text(writing),
+        Call::Mend { given, lent } => format!("mend into {lent} bytes, {}", bytes(given)),
     }
 }
 

@@ -2,8 +2,7 @@
 //! member can be left out, looked at in the library's answers by themselves.
 
 use crate::case::Call;
-use crate::draft::Draft;
-use ffi::task::Node;
+use crate::draft::{Draft, Node};
 use reference::Answer;
 
 /// A rule in words, and whether it holds.
@@ -31,7 +30,7 @@ pub fn broken(call: &Call, answer: &Answer) -> Option<&'static str> {
 }
 
 fn nodes(record: &[u8]) -> Vec<Node> {
-    Draft::read(record).map_or(vec![], |draft| draft.task.nodes)
+    Draft::read(record).map_or(vec![], |draft| draft.nodes)
 }
 
 /// A task's nodes, the one that is named, and the set shown with it.
@@ -71,7 +70,7 @@ impl Round {
         let mut met = [false; 64];
         let mut ahead = vec![from];
         while let Some(node) = ahead.pop() {
-            for &parent in self.parents(node) {
+            for parent in self.parents(node) {
                 if has(set, parent) && !met[parent as usize] {
                     met[parent as usize] = true;
                     ahead.push(parent);
@@ -81,9 +80,9 @@ impl Round {
         met[to as usize]
     }
 
-    fn parents(&self, node: u64) -> &[u64] {
-        let node = self.nodes.get(node as usize);
-        node.map_or(&[], |node| &node.parents)
+    fn parents(&self, node: u64) -> impl Iterator<Item = u64> + '_ {
+        let node = self.nodes.get(node as usize).into_iter();
+        node.flat_map(|node| node.parents.iter().map(|parent| parent.value))
     }
 }
 

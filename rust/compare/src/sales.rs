@@ -34,7 +34,8 @@ pub fn broken(call: &Call, answer: &Answer, board: &[Row]) -> Option<&'static st
         | Call::Note(..)
         | Call::Admit { .. }
         | Call::Withdraw(_)
-        | Call::Write(_) => return None,
+        | Call::Write(_)
+        | Call::Mend { .. } => return None,
     };
     if answer.refusal != 0 {
         return None;

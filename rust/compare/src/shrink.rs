@@ -4,7 +4,6 @@
 use crate::case::{difference, Call, Case};
 use crate::draft::Draft;
 use crate::writing::Writing;
-use ffi::task::Task;
 use reference::Row;
 
 pub fn shrink(mut case: Case) -> Case {
@@ -72,25 +71,26 @@ fn shrink_call(case: &mut Case, at: usize) {
         Call::Withdraw(id) => lower_number(case, at, id, Call::Withdraw),
         Call::Ask(cores) => lower_number(case, at, cores, Call::Ask),
         Call::AskToEnd(cores) => lower_number(case, at, cores, Call::AskToEnd),
-        Call::Plan(_, cost) | Call::Note(_, cost) => shrink_planned(case, at, cost),
+        Call::Plan(..) | Call::Note(..) | Call::Mend { .. } => shrink_reading(case, at),
         Call::Admit {
             record,
             cores,
             cost,
         } => {
             lower_number(case, at, cores, |cores| Call::admit(&record, cores, cost));
-            shrink_planned(case, at, cost);
+            shrink_reading(case, at);
         }
         Call::Write(_) => shrink_writing(case, at),
     }
 }
 
-/// A call that takes a record and a cost.
-fn shrink_planned(case: &mut Case, at: usize, cost: u64) {
-    lower(cost, |cost| {
-        keeps(case, |case| *record_and_cost(case, at).1 = cost)
+/// A call that reads a record.
+fn shrink_reading(case: &mut Case, at: usize) {
+    lower(*record_and_number(case, at).1, |number| {
+        keeps(case, |case| *record_and_number(case, at).1 = number)
     });
     shrink_task(case, at);
+    unpad(case, at);
     shrink_bytes(case, at);
 }
 
@@ -101,11 +101,13 @@ fn lower_number(case: &mut Case, at: usize, number: u64, call: impl Fn(u64) -> C
     });
 }
 
-fn record_and_cost(case: &mut Case, at: usize) -> (&mut Vec<u8>, &mut u64) {
+/// The record, and a cost or the number of bytes lent.
+fn record_and_number(case: &mut Case, at: usize) -> (&mut Vec<u8>, &mut u64) {
     match &mut case.calls[at] {
         Call::Plan(record, cost) | Call::Note(record, cost) | Call::Admit { record, cost, .. } => {
             (record, cost)
         }
+        Call::Mend { given, lent } => (given, lent),
         Call::Withdraw(_) | Call::Ask(_) | Call::AskToEnd(_) | Call::Write(_) => {
             unreachable!("this call has no record")
         }
@@ -113,7 +115,19 @@ fn record_and_cost(case: &mut Case, at: usize) -> (&mut Vec<u8>, &mut u64) {
 }
 
 fn record(case: &mut Case, at: usize) -> &mut Vec<u8> {
-    record_and_cost(case, at).0
+    record_and_number(case, at).0
+}
+
+/// Takes groups of zeros off the ends of numbers.
+fn unpad(case: &mut Case, at: usize) {
+    for last in (1..record(case, at).len()).rev() {
+        if record(case, at)[last] == 0 && record(case, at)[last - 1] >= 0x80 {
+            keeps(case, |case| {
+                record(case, at).remove(last);
+                record(case, at)[last - 1] &= 0x7F;
+            });
+        }
+    }
 }
 
 fn shrink_bytes(case: &mut Case, at: usize) {
@@ -129,13 +143,14 @@ fn shrink_bytes(case: &mut Case, at: usize) {
     }
 }
 
-const TASK_FIELDS: [fn(&mut Task) -> &mut u64; 3] = [
-    |task| &mut task.period,
-    |task| &mut task.id,
-    |task| &mut task.edition,
+const DRAFT_FIELDS: [fn(&mut Draft) -> &mut u64; 3] = [
+    |draft| &mut draft.period.value,
+    |draft| &mut draft.id.value,
+    |draft| &mut draft.edition.value,
 ];
 
-/// A record gets smaller as a task first: nodes, edges, then numbers.
+/// A record gets smaller as a task first: nodes, edges, then numbers. What is
+/// padded stays so.
 fn shrink_task(case: &mut Case, at: usize) {
     let Some(mut draft) = Draft::read(record(case, at)) else {
         return;
@@ -149,24 +164,24 @@ fn shrink_task(case: &mut Case, at: usize) {
         }
         kept
     };
-    drop_parts(draft.task.nodes.len(), |first, length| {
+    drop_parts(draft.nodes.len(), |first, length| {
         change(&mut draft, &|draft| draft.drop_nodes(first, length))
     });
-    for node in 0..draft.task.nodes.len() {
-        drop_parts(draft.task.nodes[node].parents.len(), |first, length| {
+    for node in 0..draft.nodes.len() {
+        drop_parts(draft.nodes[node].parents.len(), |first, length| {
             change(&mut draft, &|draft| {
-                draft.task.nodes[node].parents.drain(first..first + length);
+                draft.nodes[node].parents.drain(first..first + length);
             })
         });
-        lower(draft.task.nodes[node].execution, |value| {
+        lower(draft.nodes[node].execution.value, |value| {
             change(&mut draft, &|draft| {
-                draft.task.nodes[node].execution = value
+                draft.nodes[node].execution.value = value
             })
         });
     }
-    for field in TASK_FIELDS {
-        lower(*field(&mut draft.task), |value| {
-            change(&mut draft, &|draft| *field(&mut draft.task) = value)
+    for field in DRAFT_FIELDS {
+        lower(*field(&mut draft), |value| {
+            change(&mut draft, &|draft| *field(draft) = value)
         });
     }
 }

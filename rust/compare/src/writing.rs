@@ -79,11 +79,6 @@ impl Writing {
         encoded(&self.numbers()).len() as u64
     }
 
-    /// The bytes as they are lent: no number ends with one of these.
-    pub fn old_bytes(&self) -> Vec<u8> {
-        (0..self.lent).map(|at| at as u8 | 0x80).collect()
-    }
-
     /// Drops nodes; later ones move up, in the sets too.
     pub fn drop_nodes(&mut self, first: usize, length: usize) {
         self.executions.drain(first..first + length);
@@ -95,4 +90,9 @@ impl Writing {
             *set = *set & before | after & !before;
         }
     }
+}
+
+/// Bytes as they are lent: no number ends with one of these.
+pub fn old_bytes(lent: u64) -> Vec<u8> {
+    (0..lent).map(|at| at as u8 | 0x80).collect()
 }

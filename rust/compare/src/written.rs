@@ -3,7 +3,7 @@
 //! reading would refuse that one, writing has to refuse the lists.
 
 use crate::case::Call;
-use crate::writing::Writing;
+use crate::writing::{old_bytes, Writing};
 use ffi::task::encoded;
 use reference::{Answer, Table, PLAN_WORDS};
 use std::collections::BTreeMap;
@@ -63,7 +63,7 @@ fn record(writing: &Writing) -> Vec<u8> {
 }
 
 /// The library's own, for reading the record.
-fn refusal(record: &[u8]) -> Option<Answer> {
+pub fn refusal(record: &[u8]) -> Option<Answer> {
     let answer = ffi::plan(record, &mut [0; PLAN_WORDS], 0);
     (!matches!(answer.refusal, 0 | 10 | 11)).then_some(answer)
 }
@@ -102,7 +102,7 @@ impl Written {
 
     /// Of a refusal, that nothing is written.
     fn is_the_record(&self) -> bool {
-        let mut bytes = self.writing.old_bytes();
+        let mut bytes = old_bytes(self.writing.lent);
         if self.answer.refusal != 0 {
             return self.bytes == bytes;
         }
@@ -184,7 +184,7 @@ pub fn gives(writing: &Writing, record: &[u8]) -> bool {
         ref parents,
         ..
     } = *writing;
-    let mut bytes = writing.old_bytes();
+    let mut bytes = old_bytes(writing.lent);
     let answer = ffi::write_record(executions, parents, &mut bytes, edition, id, period);
     let accepted = Answer {
         value: record.len() as u64,

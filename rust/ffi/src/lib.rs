@@ -1,9 +1,9 @@
-//! The proved library's C interface as seven ordinary calls, so that it can
+//! The proved library's C interface as eight ordinary calls, so that it can
 //! stand wherever the reference can; and the tasks both programs feed to it.
 
 pub mod task;
 
-use reference::{Answer, Row};
+use reference::{Answer, Mending, Row};
 
 /// Where the library lies that is linked in.
 pub const LIBRARY: &str = env!("PLANNER_LIBRARY");
@@ -49,6 +49,7 @@ extern "C" {
         id: u64,
         period: u64,
     ) -> Answer;
+    fn planner_mend(given: *const u8, length: usize, bytes: *mut u8, lent: usize) -> Mending;
 }
 
 pub fn plan(record: &[u8], words: &mut [u64], cost: u64) -> Answer {
@@ -104,4 +105,11 @@ pub fn write_record(
             executions, times, parents, sets, bytes, lent, edition, id, period,
         )
     }
+}
+
+pub fn mend(given: &[u8], bytes: &mut [u8]) -> Mending {
+    let (length, lent) = (given.len(), bytes.len());
+    // SAFETY: each pointer goes with its own slice's length; the two do not
+    // overlap.
+    unsafe { planner_mend(given.as_ptr(), length, bytes.as_mut_ptr(), lent) }
 }

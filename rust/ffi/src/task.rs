@@ -54,6 +54,17 @@ impl Task {
         }
     }
 
+    /// The longest record that is mended, and the longest is written of it. Each
+    /// number has four bytes, and each list as many parents as it may have.
+    pub fn longest_given() -> Vec<u8> {
+        let mut task = Task::longest();
+        for node in &mut task.nodes {
+            node.parents = (0..64).rev().cycle().take(255).collect();
+        }
+        let numbers = task.numbers().into_iter();
+        numbers.flat_map(|number| stretched(number, 4)).collect()
+    }
+
     /// The task in edition 2; every other node from that one on is a join.
     pub fn half_joins(mut self, first: usize) -> Task {
         self.edition = 2;
@@ -66,6 +77,15 @@ impl Task {
 /// A number's shortest form, whatever its size.
 pub fn number(value: u64) -> Vec<u8> {
     encoded(&[value])
+}
+
+/// A number in so many bytes, or as many as it takes.
+pub fn stretched(value: u64, bytes: usize) -> Vec<u8> {
+    let mut form = number(value);
+    form.resize(bytes.max(form.len()), 0);
+    let (_, before) = form.split_last_mut().expect("a number has a byte");
+    before.iter_mut().for_each(|byte| *byte |= 0x80);
+    form
 }
 
 /// Numbers one after the other, each in its shortest form.

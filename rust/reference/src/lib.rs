@@ -1,5 +1,5 @@
 //! Document 01, as the requests of document 02 change it, in plain Rust: the
-//! seven public calls and the printed sheet.
+//! eight public calls and the printed sheet.
 //!
 //! Written from the documents alone, but for which loop is shown (the choice
 //! is docs/PROTOCOL.md's), so that an answer of the proved library can be held
@@ -8,6 +8,7 @@
 #![forbid(unsafe_code)]
 
 mod board;
+mod mend;
 mod plan;
 mod record;
 mod refusal;
@@ -17,21 +18,23 @@ mod sheet;
 mod timing;
 mod write;
 
+pub use mend::Mending;
 pub use plan::PLAN_WORDS;
 pub use record::Table;
 pub use row::Row;
 pub use sheet::sheet;
 
 use board::{allowed_cores, find, fits, free_row, sound, verdict, verdict_to_end, ROWS};
+use mend::mended;
 use plan::{lent_words, write_plan};
 use refusal::{Refusal, Rule};
 use timing::Timing;
 use write::write;
 
-/// What every call returns. With refusal 0, `value` is the words or bytes
-/// written, the row filled or freed, or 1 for yes and 0 for no; otherwise it is
-/// 0. Beside refusal 10, `ring` is the set of a loop's nodes, node k as bit k;
-/// else 0.
+/// What every call returns, mending with counts beside it. With refusal 0,
+/// `value` is the words or bytes written, the row filled or freed, or 1 for yes
+/// and 0 for no; otherwise it is 0. Beside refusal 10, `ring` is the set of a
+/// loop's nodes, node k as bit k; else 0.
 #[repr(C)]
 #[derive(Clone, Copy, Debug, Default, PartialEq, Eq)]
 pub struct Answer {
@@ -110,6 +113,13 @@ pub fn write_record(
     period: u64,
 ) -> Answer {
     write(executions, parents, bytes, edition, id, period).into()
+}
+
+/// Writes the task of a record that is given carelessly into the lent bytes:
+/// numbers in shortest form, parents ascending and single. The value is the
+/// number of bytes.
+pub fn mend(given: &[u8], bytes: &mut [u8]) -> Mending {
+    mended(given, bytes).unwrap_or_else(Mending::refused)
 }
 
 /// What the calls read a record as, or their answer where it is refused. It is

@@ -1,0 +1,7 @@
+pub mod Cases
+pub mod Inside
+pub mod Given
+pub mod Drawn
+pub mod Calls
+pub mod Strict
+pub mod Trip
