@@ -31,7 +31,8 @@ use Rattle.menders.specs.Given.Due.{edition, id, period, count, execution, pare
 use Rattle.menders.specs.Given.Refuses.{ends, long, outside, follow}
 use Rattle.menders.specs.Mending.{Mended, mendCall}
 use Rattle.listings.proofs.Lists.{member-listed}
-use Rattle.menders.proofs.Given.{rule-refused, given-drawn, refused-rule, reached-inside}
+use Rattle.menders.proofs.Given.{rule-refused, refused-rule, reached-inside}
+use Rattle.menders.proofs.OneWay.{one-way}
 use Rattle.menders.proofs.Drawn.{given-read, was-drawn, drawn-filling}
 use Rattle.menders.proofs.Calls.{Coming, coming}
 use Rattle.menders.proofs.Calls.Coming.{refused, none-runs, short, fits}
@@ -40,7 +41,7 @@ use Rattle.plans.proofs.Tests.{not-both}
 use Rattle.claims.specs.Rule.{Decides, IsAccepted, IsRefused}
 use Rattle.claims.specs.Write.{writeValue}
 use Rattle.claims.specs.Mend.{givenRule, mendRules, front, unchanged, Counted, OfMending}
-use Rattle.claims.proofs.Rule.{Single, single, single-at, gives, not-given}
+use Rattle.claims.proofs.Rule.{Single, single, single-at, single-by, gives, not-given}
 use Rattle.claims.proofs.Promise.{promised, narrowed}
 
 -- the given record's rules give one refusal
@@ -48,10 +49,7 @@ outcome-is : (given : List ℕ) {k place : ℕ} → Refuses given k place → dr
 outcome-is given f = ap (λ (x : Draft). x .outcome) (rule-refused given f)
 
 given-single : (given : List ℕ) → Single (givenRule given)
-given-single given = record { one = one; bare = λ r p n. ap (λ (x : Refusal). x .ring) (p .3) }
-  where
-    one : (r s : Refusal) → givenRule given r → givenRule given s → r ≡ s
-    one r s (k, p, f, e) (l, q, g, d) = let same = sym (outcome-is given f) ∙ outcome-is given g in let z : refusal k p ≡ refusal l q = cc in e ∙ z ∙ sym d
+given-single given = single-by (Refuses given) (draftOf given .outcome) (λ k place f. outcome-is given f)
 
 -- its numbers are those of the reader's first nine, at a byte of the record or at its end
 range-number : (d : Due) → (3 ≤ range d .broken) × (range d .broken ≤ 8)
@@ -149,8 +147,7 @@ of-mending = record {
   one-mending = λ given bytes m m′ e f. e ∙ sym f;
   counted = λ given bytes m e z. rw e (counted given bytes (rw e at z));
   uncounted = λ given bytes m e z. rw e (untouched given bytes (rw e at z) .1);
-  one-draft = λ given t u p q ls ms g h.
-      let same = sym (given-drawn given g) ∙ given-drawn given h in (ap (λ (x : Draft). x .table) same, ap (λ (x : Draft). x .counts) same);
+  one-way = λ given t u p q ls ms. one-way given;
   listed = member-listed;
   strict = λ s bytes t m b e h a. a ∙ strict-mended s bytes t e (spells s t b e) h;
   back = λ given bytes m e z. let y = rw e at z in

@@ -41,7 +41,7 @@ use Rattle.plans.proofs.Cases.{Tasking}
 use Rattle.plans.proofs.Cases.Tasking.{unread, round, long, goes}
 use Rattle.claims.specs.Rule.{Rule, Decides}
 use Rattle.claims.specs.Record.{readerRule, loopRule, recordRules, NamesLoop, Faulty, NoneRuns, OfReading}
-use Rattle.claims.proofs.Rule.{Single, Singles, single, gives, not-given}
+use Rattle.claims.proofs.Rule.{Single, Singles, single, gives, not-given, single-by}
 
 -- the outcome that a rule of the reader's gives
 outcome-of : {bytes : List ℕ} {number place : ℕ} → Refuses bytes number place → readingOf bytes .outcome ≡ Refused (refusal number place)
@@ -120,13 +120,7 @@ decided answer told bytes cost rest value entry (goes e ok) =
 
 -- the reader gives one refusal
 reader-single : (bytes : List ℕ) → Single (readerRule bytes)
-reader-single bytes = record {
-  one = one;
-  bare = λ r p n. ap (λ (x : Refusal). x .ring) (p .3);
-}
-  where
-    one : (r s : Refusal) → readerRule bytes r → readerRule bytes s → r ≡ s
-    one r s (k, p, f, e) (l, q, g, d) = let same = sym (outcome-of f) ∙ outcome-of g in let z : refusal k p ≡ refusal l q = cc in e ∙ z ∙ sym d
+reader-single bytes = single-by (Refuses bytes) (readingOf bytes .outcome) (λ k place f. outcome-of f)
 
 -- and so does 10: there is one smallest node
 one-smallest : {P : List ℕ} {v w : ℕ} → Smallest P v → Smallest P w → v ≡ w

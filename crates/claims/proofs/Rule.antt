@@ -4,10 +4,12 @@ use mathlib.Core.Logic.{inl, inr}
 use mathlib.Core.List.{List, [], _∷_}
 use Prim.Native.Nat.{ℕ}
 use Rattle.refusals.specs.declared.Refusal.{Refusal}
+use Rattle.refusals.specs.declared.Outcome.{Outcome}
+use Rattle.refusals.specs.declared.Outcome.the-variants.{Refused}
 use Rattle.refusals.specs.declared.Answer.{Answer}
 use Rattle.refusals.specs.Refusal.{refusal}
 use Rattle.refusals.specs.Answer.{accepted, refused}
-use Rattle.claims.specs.Rule.{Rule, ruleAt, rule, Decides, OnlyWhen}
+use Rattle.claims.specs.Rule.{Rule, ruleAt, rule, ruleBy, Decides, OnlyWhen}
 
 -- one number at most
 abbrev pub OneValue : (ℕ → Type 0) → Type 0
@@ -28,6 +30,13 @@ single-at number place given = record { one = λ r s p q. p .1 ∙ sym (q .1); b
 
 pub single : (number : ℕ) (given : Type 0) → Single (rule number given)
 single number given = single-at number 0 given
+
+-- and so does a relation that an outcome follows
+pub single-by : (gives : (number place : ℕ) → Type 0) (outcome : Outcome) → ((k place : ℕ) → gives k place → outcome ≡ Refused (refusal k place)) → Single (ruleBy gives)
+single-by gives outcome told = record { one = one; bare = λ r p n. ap (λ (x : Refusal). x .ring) (p .3) }
+  where
+    one : (r s : Refusal) → ruleBy gives r → ruleBy gives s → r ≡ s
+    one r s (k, p, f, e) (l, q, g, d) = let same = sym (told k p f) ∙ told l q g in let z : refusal k p ≡ refusal l q = cc in e ∙ z ∙ sym d
 
 -- the rules decide one answer
 one-decision : (rules : List Rule) {value : ℕ → Type 0} → Singles rules → OneValue value → (a b : Answer) → Decides rules value a → Decides rules value b → a ≡ b

@@ -26,6 +26,7 @@ use Rattle.records.specs.Reading.{readingOf}
 use Rattle.records.proofs.Expected.{rule-refused}
 use Rattle.writers.specs.Record.{numbersOf, recordOf}
 use Rattle.writers.specs.Ranges.{ranges}
+use Rattle.writers.specs.Stands.{Outside}
 use Rattle.writers.specs.Stands.Outside.{outside}
 use Rattle.writers.specs.Writing.{filled, tableOf, recordPut, writeCall}
 use Rattle.writers.proofs.Stands.{outside-refused, refused-outside, outside-read}
@@ -36,16 +37,13 @@ use Rattle.writers.proofs.Longest.{record-length}
 use Rattle.plans.proofs.Tests.{not-both}
 use Rattle.claims.specs.Rule.{Decides, IsAccepted, IsRefused}
 use Rattle.claims.specs.Write.{rangeRule, writeRules, writeValue, withRecord, OfWriting}
-use Rattle.claims.proofs.Rule.{Single, single, single-at, gives, not-given}
+use Rattle.claims.proofs.Rule.{Single, single, single-at, single-by, gives, not-given}
 use Rattle.claims.proofs.Promise.{promised}
 use Rattle.claims.proofs.Record.{range-number}
 
 -- the ranges give one refusal
 range-single : (t : TaskTable) → Single (rangeRule t)
-range-single t = record { one = one; bare = λ r p n. ap (λ (x : Refusal). x .ring) (p .3) }
-  where
-    one : (r s : Refusal) → rangeRule t r → rangeRule t s → r ≡ s
-    one r s (k, p, f, e) (l, q, g, d) = let same = sym (outside-refused _ f) ∙ outside-refused _ g in let z : refusal k p ≡ refusal l q = cc in e ∙ z ∙ sym d
+range-single t = single-by (Outside (numbersOf t)) (ranges (numbersOf t)) (λ k place f. outside-refused _ f)
 
 -- what the ranges refuse is no acceptance
 range-some : (t : TaskTable) (r : Refusal) → rangeRule t r → r .number ≡ 0 → ⊥

@@ -4,7 +4,6 @@ use mathlib.Core.List.{List, [], _∷_}
 use Prim.Native.Nat.{ℕ, _≤_, _<_}
 use lib.ListN.{length, take}
 use Rattle.plain.specs.At.{at}
-use Rattle.refusals.specs.Refusal.{refusal}
 use Rattle.refusals.specs.Answer.{accepted}
 use Rattle.refusals.specs.After.{After}
 use Rattle.sets.specs.Member.{isMember}
@@ -14,19 +13,19 @@ use Rattle.numbers.specs.Shortest.{Bytes}
 use Rattle.records.specs.Nodes.{tableRead}
 use Rattle.records.specs.Reading.{readingOf}
 use Rattle.writers.specs.Record.{recordOf}
-use Rattle.menders.specs.declared.Counts.{Counts}
 use Rattle.listings.specs.Lists.{isListed, listSet}
+use Rattle.menders.specs.declared.Counts.{Counts}
 use Rattle.menders.specs.Draft.{noCounts, draftOf}
 use Rattle.menders.specs.Given.{Refuses, Gives, listAt, countsOf}
 use Rattle.menders.specs.Mending.{Mended}
 use Rattle.planner.specs.Allows.{MendAllows}
-use Rattle.claims.specs.Rule.{Rule, ruleAt, rule, IsAccepted, IsRefused}
+use Rattle.claims.specs.Rule.{Rule, ruleAt, rule, ruleBy, IsAccepted, IsRefused}
 use Rattle.claims.specs.Promise.{Promise}
 use Rattle.claims.specs.Write.{writeValue, withRecord}
 
 -- "Refusals: the reader's, less 18 and the order rule in 8": 1 to 9, as met
 abbrev pub givenRule : List ℕ → Rule
-givenRule given r = (number : ℕ) × (place : ℕ) × Refuses given number place × (r ≡ refusal number place)
+givenRule given = ruleBy (Refuses given)
 
 -- these; then 21, "all executions are 0"; "19 last, for a short buffer", at its length
 abbrev pub mendRules : (given bytes : List ℕ) → TaskTable → List Rule
@@ -68,9 +67,9 @@ pub record OfMending : Type 0 where
   -- "Report three counts over the given record"; a refusal has none
   pub counted : (given bytes : List ℕ) (m : Mended) → MendAllows given bytes m → IsAccepted (m .after .answer) → Counted given (draftOf given .table) (m .counts)
   pub uncounted : (given bytes : List ℕ) (m : Mended) → MendAllows given bytes m → IsRefused (m .after .answer) → m .counts ≡ noCounts
-  -- no record is given in two ways
-  pub one-draft : (given : List ℕ) (t u : TaskTable) (padded padded′ : ℕ) (lists lists′ : List (List ℕ)) → Gives given t padded lists → Gives given u padded′ lists′ →
-      (t ≡ u) × (countsOf padded lists ≡ countsOf padded′ lists′)
+  -- no record is given in two ways: it has one table, one number of padded numbers and one list for each node
+  pub one-way : (given : List ℕ) (t u : TaskTable) (padded padded′ : ℕ) (lists lists′ : List (List ℕ)) → Gives given t padded lists → Gives given u padded′ lists′ →
+      (t ≡ u) × (padded ≡ padded′) × (lists ≡ lists′)
   -- a parent is in the set of its list just where it is listed
   pub listed : (list : List ℕ) (k : ℕ) → k < 64 → isMember k (listSet list) ≡ isListed list k
   -- "A record that the reader accepts comes back equal with three zeros", where there is room for it

@@ -25,11 +25,11 @@ use Rattle.rings.specs.Ring.{ring}
 use Rattle.rings.specs.Round.{Smallest, Round}
 use Rattle.plans.specs.Diagram.{path}
 use Rattle.plans.specs.Calls.{taskOf}
-use Rattle.claims.specs.Rule.{Rule, rule}
+use Rattle.claims.specs.Rule.{Rule, rule, ruleBy}
 
 -- the reader's refusals "as met": what is expected at a place that was reached has a fault, bytes follow, or all executions are 0
 abbrev pub readerRule : List ℕ → Rule
-readerRule bytes r = (number : ℕ) × (place : ℕ) × Refuses bytes number place × (r ≡ refusal number place)
+readerRule bytes = ruleBy (Refuses bytes)
 
 -- 10, "some node is reached from itself": its place is the smallest such node; which of the loops through it stands beside it, `ring` says
 abbrev pub loopRule : TaskTable → Rule

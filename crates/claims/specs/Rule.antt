@@ -21,6 +21,10 @@ ruleAt number place given r = given × (r ≡ refusal number place)
 abbrev pub rule : ℕ → Type 0 → Rule
 rule number given = ruleAt number 0 given
 
+-- refusals that a relation has, each with its number and its place
+abbrev pub ruleBy : (gives : (number place : ℕ) → Type 0) → Rule
+ruleBy gives r = (number : ℕ) × (place : ℕ) × gives number place × (r ≡ refusal number place)
+
 -- what a list of rules decides: the first that gives a refusal refuses by it; where none does the call is accepted with its value
 abbrev pub Decides : List Rule → (ℕ → Type 0) → Answer → Type 0
 Decides [] value answer = (v : ℕ) × value v × (answer ≡ accepted v)

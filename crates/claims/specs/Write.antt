@@ -6,7 +6,6 @@ use lib.ListN.{length, take, drop}
 use Rattle.plain.specs.At.{at}
 use Rattle.refusals.specs.declared.Refusal.{Refusal}
 use Rattle.refusals.specs.declared.Outcome.the-variants.{Refused}
-use Rattle.refusals.specs.Refusal.{refusal}
 use Rattle.refusals.specs.Answer.{accepted}
 use Rattle.refusals.specs.After.{After}
 use Rattle.tables.specs.declared.TaskTable.{TaskTable}
@@ -20,12 +19,12 @@ use Rattle.writers.specs.Record.{numbersOf, recordOf}
 use Rattle.writers.specs.Stands.{Outside}
 use Rattle.writers.specs.Writing.{tableOf}
 use Rattle.planner.specs.Allows.{WriteAllows}
-use Rattle.claims.specs.Rule.{Rule, ruleAt, rule, IsAccepted}
+use Rattle.claims.specs.Rule.{Rule, ruleAt, rule, ruleBy, IsAccepted}
 use Rattle.claims.specs.Promise.{Promise}
 
 -- 3 to 8, "in the order in which the record would meet them, with place set to the byte at which that number would have stood"
 abbrev pub rangeRule : TaskTable → Rule
-rangeRule t r = (broken : ℕ) × (place : ℕ) × Outside (numbersOf t) broken place × (r ≡ refusal broken place)
+rangeRule t = ruleBy (Outside (numbersOf t))
 
 -- "19 at place 0 before all others where the lists differ in length"; the ranges; 21, "all executions are 0", "after 8 and before a short buffer"; "19 at the
 -- buffer's length, after all others, where it is too short"

@@ -2,7 +2,7 @@
 -- that are in range it is the draft of what is left. Every number has its fault or has none, each one takes a byte at least, and so every input comes to
 -- a refusal or to its table and its lists.
 use Prim.Native.Nat.{ℕ, zero, suc, _+_, _-_, _≤_, _<_}
-use mathlib.Core.Path.{_≡_, refl, sym, ap, ap₂, subst, _∙_}
+use mathlib.Core.Path.{_≡_, refl, sym, ap, ap₂, _∙_}
 use mathlib.Core.Logic.{inl, inr, ⊎-elim}
 use mathlib.Core.Bool.{Bool, true, false}
 use mathlib.Core.List.{List, [], _∷_, _++_}
@@ -25,6 +25,7 @@ use Rattle.numbers.proofs.Forms as forms
 use Rattle.numbers.proofs.Cases.{clash}
 use Rattle.records.specs.Nodes.{withNode}
 use Rattle.records.specs.Reading.{headed}
+use Rattle.records.proofs.Expected.{ByRule, by-rule}
 use Rattle.menders.specs.declared.Spot.{Spot}
 use Rattle.menders.specs.declared.Taken.{Taken}
 use Rattle.menders.specs.declared.Taken.the-variants.{Read, Refused}
@@ -120,7 +121,7 @@ onward-step s spot (parent t i lists e left given) = list-then _ _ _ _ _ _ _ ∙
 
 -- the number at a place, by its form
 module _ (s : List ℕ) (at padded : ℕ) where
-  number-read : {v n more : ℕ} → Number (drop at s) v n more → anyForm s (record { at = at; padded = padded }) ≡ Read v (record { at = at + n; padded = padded + more })
+  pub number-read : {v n more : ℕ} → Number (drop at s) v n more → anyForm s (record { at = at; padded = padded }) ≡ Read v (record { at = at + n; padded = padded + more })
   unfolding anyForm
   number-read {v} {n} (as-shortest w) =
       ap (takenOf (length s) (record { at = at; padded = padded })) (forms.whole-read recordMore (w .0) (w .1)) ∙ ap (λ (k : ℕ). Read v (record { at = at + n; padded = k })) (sym (add-zero padded))
@@ -203,16 +204,10 @@ module _ (s : List ℕ) where
   pub comes : Comes
   comes = comes-from (length s) 0 0 (number edition) (omega arith) begin
 
-  -- by a rule of the mender's, with nothing beside its number and place
-  abbrev ByRule : Refusal → Type 0
-  ByRule r = Refuses s (r .number) (r .place) × (r ≡ refusal (r .number) (r .place))
-
   -- and so a refusal is by its rule
-  pub refused-rule : (r : Refusal) → draftOf s .outcome ≡ outcome.Refused r → ByRule r
+  pub refused-rule : (r : Refusal) → draftOf s .outcome ≡ outcome.Refused r → ByRule (Refuses s) r
   refused-rule r q = by comes
     where
-      by : Comes → ByRule r
-      by (refuses {k} {place} f) =
-          let e : outcome.Refused (refusal k place) ≡ outcome.Refused r = ap (λ (x : Draft). x .outcome) (sym (rule-refused f)) ∙ q in
-          let d : refusal k place ≡ r = cc in subst ByRule d (f, refl)
+      by : Comes → ByRule (Refuses s) r
+      by (refuses f) = by-rule (Refuses s) f (ap (λ (x : Draft). x .outcome) (sym (rule-refused f)) ∙ q)
       by (gives m) = clash (let e = ap (λ (x : Draft). x .outcome) (sym (given-drawn m)) ∙ q in cc)

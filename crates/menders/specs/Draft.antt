@@ -42,16 +42,16 @@ noMore t reordered dropped bytes spot =
 unfoldable pub nodesTaken : (k i : ℕ) → TaskTable → (reordered dropped : ℕ) → List ℕ → Spot → Draft
 nodesTaken zero i t reordered dropped bytes spot = noMore t reordered dropped bytes spot
 nodesTaken (suc k) i t reordered dropped bytes spot =
-    thenTaken undrawn (taken badExecution (leastExecution (t .edition)) executionMax bytes spot) λ e at₁.
-    (let list = parentList (t .count) bytes at₁ in
-    thenTaken undrawn (list .taken) λ w at₂.
-    nodesTaken k (i + 1) (withNode t i e w) (reordered + list .reordered) (dropped + list .dropped) bytes at₂)
+    thenTaken undrawn (taken badExecution (leastExecution (t .edition)) executionMax bytes spot) λ e spot₁.
+    (let list = parentList (t .count) bytes spot₁ in
+    thenTaken undrawn (list .taken) λ w spot₂.
+    nodesTaken k (i + 1) (withNode t i e w) (reordered + list .reordered) (dropped + list .dropped) bytes spot₂)
 
 -- "A record is, in order: edition", 1 or 2, "task id (1..65,535); period (1..16,777,215); node count n (1..64);" and then the nodes
 unfoldable pub draftOf : List ℕ → Draft
 draftOf bytes =
-    thenTaken undrawn (taken badEdition 1 editionMax bytes (record { at = 0; padded = 0 })) λ edition at₁.
-    thenTaken undrawn (taken badId 1 idMax bytes at₁) λ id at₂.
-    thenTaken undrawn (taken badPeriod 1 periodMax bytes at₂) λ period at₃.
-    thenTaken undrawn (taken badCount 1 countMax bytes at₃) λ n at₄.
-    nodesTaken n 0 (headed edition id period n) 0 0 bytes at₄
+    thenTaken undrawn (taken badEdition 1 editionMax bytes (record { at = 0; padded = 0 })) λ edition spot₁.
+    thenTaken undrawn (taken badId 1 idMax bytes spot₁) λ id spot₂.
+    thenTaken undrawn (taken badPeriod 1 periodMax bytes spot₂) λ period spot₃.
+    thenTaken undrawn (taken badCount 1 countMax bytes spot₃) λ n spot₄.
+    nodesTaken n 0 (headed edition id period n) 0 0 bytes spot₄

@@ -71,7 +71,7 @@ pub data Meets (bytes : List ℕ) : (place padded : ℕ) → Next → Type 0 whe
   on : {place padded v n more : ℕ} {due : Due} → Meets bytes place padded (number due) → Number (drop place bytes) v n more →
       range due .low ≤ v → v ≤ range due .high → Meets bytes (place + n) (padded + more) (after due v)
 
--- the refusals of 1 to 9: the number, and the place that is told with it
+-- the refusals 1 to 9: the number, and the place that is told with it
 pub data Refuses (bytes : List ℕ) : (number place : ℕ) → Type 0 where
   ends : {place padded : ℕ} {due : Due} → Meets bytes place padded (number due) → Ends recordMore (drop place bytes) → Refuses bytes ended (length bytes)
   long : {place padded : ℕ} {due : Due} → Meets bytes place padded (number due) → Long recordMore (drop place bytes) → Refuses bytes tooLong place

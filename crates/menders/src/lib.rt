@@ -98,7 +98,7 @@ fn read(value: u64, at: usize, padded: u64) -> Taken
 }
 
 // The number at a spot, in any form.
-fn take_whole(bytes: &[u8], spot: Spot) -> Taken
+fn take_any_form(bytes: &[u8], spot: Spot) -> Taken
     requires { ⌜ Within (now bytes) spot ⌝ }
     ensures { λ r. ⌜ r ≡ anyForm (now (bytes .entry)) spot ⌝ }
 {
@@ -118,7 +118,7 @@ fn take_number(bytes: &[u8], from: Spot, broken: u64, low: u64, high: u64) -> Ta
     requires { ⌜ Within (now bytes) from ⌝ }
     ensures { λ r. ⌜ r ≡ taken broken low high (now (bytes .entry)) from ⌝ }
 {
-    let step = take_whole(bytes, from);
+    let step = take_any_form(bytes, from);
     let Taken::Read { value, spot } = step else {
         return step;
     };
@@ -175,7 +175,7 @@ fn take_list(bytes: &[u8], from: Spot, count: u64, n: u64) -> Listed
 }
 
 // The parent count at a spot, and that many parents.
-fn take_parents(bytes: &[u8], from: Spot, n: u64) -> Listed
+fn take_parent_list(bytes: &[u8], from: Spot, n: u64) -> Listed
     requires { ⌜ (1 ≤ n) × (n ≤ countMax) × Within (now bytes) from ⌝ }
     ensures { λ r. ⌜ r ≡ parentList n (now (bytes .entry)) from ⌝ }
 {
@@ -201,7 +201,7 @@ fn take_node(bytes: &[u8], from: Spot, least: u64, n: u64) -> Node
     };
     Node {
         execution: value,
-        list: take_parents(bytes, spot, n),
+        list: take_parent_list(bytes, spot, n),
     }
 }
 

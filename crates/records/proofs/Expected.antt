@@ -124,6 +124,13 @@ module _ (s : List ℕ) (at : ℕ) where
   unfolding whole
   padded-read (k, rest, z, h, l) = ap (stepOf (length s) at) (forms.padded-read recordMore l z h .2)
 
+-- a refusal by a rule, with nothing beside its number and place
+abbrev pub ByRule : ((number place : ℕ) → Type 0) → Refusal → Type 0
+ByRule rule r = rule (r .number) (r .place) × (r ≡ refusal (r .number) (r .place))
+
+pub by-rule : (rule : (number place : ℕ) → Type 0) {k place : ℕ} {r : Refusal} → rule k place → outcome.Refused (refusal k place) ≡ outcome.Refused r → ByRule rule r
+by-rule rule {k} {place} {r} f e = let d : refusal k place ≡ r = cc in subst (ByRule rule) d (f, refl)
+
 module _ (s : List ℕ) where
   -- along fine numbers, reading is the reading of what is left
   reached : {at : ℕ} {next : Next} → Expects s at next → readingOf s ≡ onward s at next
@@ -191,18 +198,12 @@ module _ (s : List ℕ) where
   pub comes : Comes
   comes = comes-from (length s) 0 (number edition) (omega arith) begin
 
-  -- by a rule of the reader's, with nothing beside its number and place
-  abbrev ByRule : Refusal → Type 0
-  ByRule r = Refuses s (r .number) (r .place) × (r ≡ refusal (r .number) (r .place))
-
   -- and so a refusal is by its rule, and a table that is read is the one that is spelt
-  pub refused-rule : (r : Refusal) → readingOf s .outcome ≡ outcome.Refused r → ByRule r
+  pub refused-rule : (r : Refusal) → readingOf s .outcome ≡ outcome.Refused r → ByRule (Refuses s) r
   refused-rule r q = by comes
     where
-      by : Comes → ByRule r
-      by (refuses {k} {place} f) =
-          let e : outcome.Refused (refusal k place) ≡ outcome.Refused r = ap (λ (x : Reading). x .outcome) (sym (rule-refused f)) ∙ q in
-          let d : refusal k place ≡ r = cc in subst ByRule d (f, refl)
+      by : Comes → ByRule (Refuses s) r
+      by (refuses f) = by-rule (Refuses s) f (ap (λ (x : Reading). x .outcome) (sym (rule-refused f)) ∙ q)
       by (spells f) = clash (let e = ap (λ (x : Reading). x .outcome) (sym (spelt-read f)) ∙ q in cc)
 
   pub read-spelt : (t : TaskTable) → readingOf s ≡ tableRead t → Spelt s t

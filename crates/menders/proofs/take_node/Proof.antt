@@ -35,13 +35,13 @@ returns c = let e = c .before .enum-told .given .1 in
     ap (λ (l : Listed). record { execution = 0; list = l }) (c .no-list .ensures ∙ ap noList e)
     ∙ sym (then-refused _ _ _ _ (sym (c .before .before .before .take-number .ensures) ∙ e))
 
-take-parents-requires : tie.Need-take-parents-requires
-take-parents-requires c κs = let r = c .before .before .before .before .before .pre in (r .0, r .1, execution (c .before) .inside)
+take-parent-list-requires : tie.Need-take-parent-list-requires
+take-parent-list-requires c κs = let r = c .before .before .before .before .before .pre in (r .0, r .1, execution (c .before) .inside)
 
 returns-2 : tie.Need-returns-2
 unfolding nodeOf
 returns-2 c = let s = c .before .before in
-    ap (λ (l : Listed). record { execution = s .step .given .0 .0; list = l }) (c .take-parents .ensures) ∙ sym (then-read _ _ _ _ _ (execution s .is))
+    ap (λ (l : Listed). record { execution = s .step .given .0 .0; list = l }) (c .take-parent-list .ensures) ∙ sym (then-read _ _ _ _ _ (execution s .is))
 
 pub take-node-spec : {M : Type 1} → statement M
 take-node-spec =
@@ -52,5 +52,5 @@ take-node-spec =
     enum-told
     no-list-requires
     returns
-    take-parents-requires
+    take-parent-list-requires
     returns-2)

@@ -10,8 +10,8 @@ use Rattle.menders.proofs.Cases.{taken-refused, taken-out, taken-in}
 use Rattle.menders.proofs.take_number.Statement.{statement}
 use Rattle.menders.proofs.take_number.Tie as tie
 
-take-whole-requires : tie.Need-take-whole-requires
-take-whole-requires c κs = search needs
+take-any-form-requires : tie.Need-take-any-form-requires
+take-any-form-requires c κs = search needs
 
 enum-known-step : tie.Need-enum-known-step
 enum-known-step c = search needs
@@ -20,7 +20,7 @@ enum-told : tie.Need-enum-told
 enum-told c = search needs
 
 returns : tie.Need-returns
-returns c = let e = c .enum-told .given .1 in e ∙ sym (taken-refused _ _ _ _ _ _ (sym (c .before .before .take-whole .ensures) ∙ e))
+returns c = let e = c .enum-told .given .1 in e ∙ sym (taken-refused _ _ _ _ _ _ (sym (c .before .before .take-any-form .ensures) ∙ e))
 
 refuse-requires : tie.Need-refuse-requires
 refuse-requires c κs = search needs
@@ -28,7 +28,7 @@ refuse-requires c κs = search needs
 -- the whole number
 value : (c : tie.After-step) → (let a = c .before .before .before .before .args in
     anyForm (now (a .bytes)) (a .from) ≡ Read (c .step .given .0 .0) (c .step .given .0 .1 .0))
-value c = sym (c .before .before .take-whole .ensures) ∙ c .step .given .1
+value c = sym (c .before .before .take-any-form .ensures) ∙ c .step .given .1
 
 returns-2 : tie.Need-returns-2
 returns-2 c = let j = c .before in
@@ -42,7 +42,7 @@ pub take-number-spec : {M : Type 1} → statement M
 take-number-spec =
     tie.close
     (tie.spec
-    take-whole-requires
+    take-any-form-requires
     enum-known-step
     enum-told
     returns

@@ -1,4 +1,4 @@
--- `menders::take_whole` meets its contract: what the number reader found in the part from the spot on is told as `takenOf` says.
+-- `menders::take_any_form` meets its contract: what the number reader found in the part from the spot on is told as `takenOf` says.
 use Prim.Native.Nat.{_+_}
 use mathlib.Core.Path.{_≡_, sym, _∙_}
 use native.Mathlib.Omega.{arith}
@@ -8,8 +8,8 @@ use Rattle.menders.specs.declared.Taken.the-variants.{Read}
 use Rattle.menders.specs.Taken.{anyForm}
 use Rattle.menders.proofs.Cases.{any-is}
 use Rattle.menders.proofs.Inside.{read-inside, any-inside}
-use Rattle.menders.proofs.take_whole.Statement.{statement}
-use Rattle.menders.proofs.take_whole.Tie as tie
+use Rattle.menders.proofs.take_any_form.Statement.{statement}
+use Rattle.menders.proofs.take_any_form.Tie as tie
 
 sub-read-number : tie.Need-sub-read-number
 sub-read-number c = search needs
@@ -81,8 +81,8 @@ returns-3 c = c .refuse .ensures ∙ sym (any-is _ _ _ (c .before .before .befor
 returns-4 : tie.Need-returns-4
 returns-4 c = c .refuse2 .ensures ∙ sym (any-is _ _ _ (c .before .before .before .read-number .ensures) _ (c .before .enum-told2 .given .1))
 
-pub take-whole-spec : {M : Type 1} → statement M
-take-whole-spec =
+pub take-any-form-spec : {M : Type 1} → statement M
+take-any-form-spec =
     tie.close
     (tie.spec
     sub-read-number

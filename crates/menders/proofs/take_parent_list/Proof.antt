@@ -1,4 +1,4 @@
--- `menders::take_parents` meets its contract: the parent count is the first number of `parentList`, and the list after it is the rest.
+-- `menders::take_parent_list` meets its contract: the parent count is the first number of `parentList`, and the list after it is the rest.
 use mathlib.Core.Path.{sym, ap, _∙_}
 use denote.Ref.{now}
 use borrow.Author.Needs.{needs}
@@ -7,8 +7,8 @@ use Rattle.listings.specs.Lists.{givenMax}
 use Rattle.menders.specs.Listed.{noList, parentList}
 use Rattle.menders.proofs.Cases.{then-read, then-refused}
 use Rattle.menders.proofs.Inside.{Passed, passed}
-use Rattle.menders.proofs.take_parents.Statement.{statement}
-use Rattle.menders.proofs.take_parents.Tie as tie
+use Rattle.menders.proofs.take_parent_list.Statement.{statement}
+use Rattle.menders.proofs.take_parent_list.Tie as tie
 
 take-number-requires : tie.Need-take-number-requires
 take-number-requires c κs = search needs
@@ -39,8 +39,8 @@ returns-2 : tie.Need-returns-2
 unfolding parentList
 returns-2 c = c .take-list .ensures ∙ sym (then-read _ _ _ _ _ (count (c .before .before) .is))
 
-pub take-parents-spec : {M : Type 1} → statement M
-take-parents-spec =
+pub take-parent-list-spec : {M : Type 1} → statement M
+take-parent-list-spec =
     tie.close
     (tie.spec
     take-number-requires
