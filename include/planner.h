@@ -1,13 +1,13 @@
-/* The planner's eight calls. A call returns for every content of what it is lent; a refusal changes nothing. The caller
+/* The planner's nine calls. A call returns for every content of what it is lent; a refusal changes nothing. The caller
  * sees to the memory, in each call:
- *   - A length is 64 bits on every machine. It counts bytes of a record, words of a plan, rows of a board, entries of a
- *     list.
+ *   - A length is 64 bits on every machine. It counts bytes of a record or a text, words of a plan, rows of a board,
+ *     entries of a list.
  *   - Each pointer is not NULL and valid for its length.
  *   - The words, the rows, the lists and the memory that the answer is returned in are aligned to 8 bytes. Compilers for
- *     32-bit x86 align uint64_t to 4 unless told otherwise (gcc and clang: -malign-double). A record may begin at any
- *     byte, and so may the bytes for one.
+ *     32-bit x86 align uint64_t to 4 unless told otherwise (gcc and clang: -malign-double). A record or a text
+ *     may begin at any byte, and so may the bytes for a record.
  *   - Nothing that is lent overlaps: record, words and board are apart, so are the two lists and the bytes, so are the
- *     given record and the bytes, and the returned answer is apart from them.
+ *     given record or the text and the bytes, and the returned answer is apart from them.
  *   - No other thread uses what is lent meanwhile. */
 #ifndef PLANNER_H
 #define PLANNER_H
@@ -28,17 +28,18 @@
 #define PLANNER_ROWS 16
 
 /* What a call answers. refusal 0: accepted, and value holds what the call returns. Otherwise refusal is the number of
- * the rule that was broken, value 0, and place where it was met: a byte of the record (for 1 the record's length), for 10
- * the smallest node that waits for itself, for 19 the length of the bytes (0 where two lists differ), and 0 for 11 to 17,
- * 20, 21 and 26. ring (since version 2) is for 10 the set of nodes of one loop through that node, node k as bit k, from
- * which none can be left out; with every other answer it is 0.
+ * the rule that was broken, value 0, and place where it was met: a byte of the record (for 1 the record's length) or of
+ * the text (for 22 also the text's length; for 4 and 5, which are none of the text's numbers, 0), for 10 the smallest
+ * node that waits for itself, for 19 the length of the bytes (0 where two lists differ), and 0 for 11 to 17, 20, 21 and
+ * 26. ring (since version 2) is for 10 the set of nodes of one loop through that node, node k as bit k, from which none
+ * can be left out; with every other answer it is 0.
  * Refusals: 1 the record ends too early; 2 a number's fourth byte has its top bit set; 3 the edition is neither 1 nor
  * 2; 4 id, 5 period, 6 node count, 7 execution (from 1 in edition 1, from 0 in edition 2) out of range; 8 a parent
- * count or parent out of range or order; 9 bytes follow the record; 10 a node waits for itself, over others or not; 11
- * the path is longer than the period; 12 the id stands already; 13 no row is free; 14 no task with this id stands; 15
- * no such number of cores; 16 too few words; 17 the board isn't sound; 18 a number isn't in its shortest form; 19 two
- * lists differ in length, or too few bytes; 20 with the task the verdict would be no; 21 all executions are 0; 26 the
- * cost is above 255. */
+ * count or parent out of range or order, in a text one given twice; 9 bytes follow the record; 10 a node waits for
+ * itself, over others or not; 11 the path is longer than the period; 12 the id stands already; 13 no row is free; 14 no
+ * task with this id stands; 15 no such number of cores; 16 too few words; 17 the board isn't sound; 18 a number isn't in
+ * its shortest form; 19 two lists differ in length, or too few bytes; 20 with the task the verdict would be no; 21 all
+ * executions are 0; 22 the text breaks the layout; 23 the text's count is above 62; 26 the cost is above 255. */
 struct planner_answer {
     uint64_t refusal;
     uint64_t place;
@@ -133,5 +134,23 @@ struct planner_answer planner_write_record(const uint64_t *executions, uint64_t 
  * (too few bytes). There is no 18. Loops and long paths are left to planning. */
 struct planner_mending planner_mend(const uint8_t *given, uint64_t given_length,
                                     uint8_t *bytes, uint64_t bytes_length);
+
+/* Reads a Standard Task Graph text and writes its task's record, of edition 2 with that id and period, into
+ * bytes[0 .. value - 1]; bytes past these keep their content. The text is words of decimal digits, any count of them,
+ * zeros in front allowed, parted by spaces and line ends (10, 13) alike and by nothing else: a count of tasks, which
+ * leaves out one dummy entry and one dummy exit, and then for each of the count + 2 its number (0, 1, .. upward), its
+ * time, how many predecessors it has, and these in any order, each once. After the last one the text ends, or a word
+ * that starts with # ends the reading, whatever follows. Each is the node of its number, dummies too, and these need
+ * neither take 0 nor be the entry and the exit. How words are parted and zeros in front change nothing that is written.
+ * text and bytes do not overlap. A buffer of PLANNER_RECORD_BYTES is never too short.
+ * value: the number of bytes written. Refusals, in this order: 4 and 5 at 0 (id and period); as met from the left, each
+ * word read whole before its range is tried and refused at its first byte, 22 (a word that is not all digits; another
+ * task number than the next one; after the last one a word that does not start with #; at text_length where the text
+ * stops short), 23 (a count above 62), 7 (a time above 65,535), 8 (a number of predecessors above count + 2, a
+ * predecessor that is none of the numbers, or one given twice); 21; 19 at bytes_length (too few bytes). Loops and long
+ * paths are left to planning. */
+struct planner_answer planner_read_graph(const uint8_t *text, uint64_t text_length,
+                                         uint8_t *bytes, uint64_t bytes_length,
+                                         uint64_t id, uint64_t period);
 
 #endif

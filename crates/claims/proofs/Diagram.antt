@@ -71,7 +71,7 @@ some-latest n F h = ⊎-elim
     (maxTo-is n F)
 
 -- no loop, by the test
-loop-free : {t : TaskTable} → Plannable t → (Loops (t .parents) (t .count) → ⊥) → loops (t .parents) (t .count) ≡ false
+pub loop-free : {t : TaskTable} → Plannable t → (Loops (t .parents) (t .count) → ⊥) → loops (t .parents) (t .count) ≡ false
 loop-free {t} r n = by (loops (t .parents) (t .count)) refl
   where
     by : (b : Bool) → loops (t .parents) (t .count) ≡ b → b ≡ false

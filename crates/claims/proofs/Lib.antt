@@ -9,9 +9,10 @@ pub mod Withdraw
 pub mod Ask
 pub mod Write
 pub mod Mend
+pub mod Graph
 pub mod Admit
-pub mod Print
 pub mod Diagram
+pub mod Print
 pub mod Cost
 mod Standing
 mod Pairing

@@ -8,6 +8,7 @@ use Rattle.claims.proofs.Withdraw.{of-withdrawing}
 use Rattle.claims.proofs.Ask.{of-asking, of-asking-to-end}
 use Rattle.claims.proofs.Write.{of-writing}
 use Rattle.claims.proofs.Mend.{of-mending}
+use Rattle.claims.proofs.Graph.{of-graphs}
 use Rattle.claims.proofs.Print.{of-printing}
 use Rattle.claims.proofs.Diagram.{tables-timed}
 use Rattle.claims.proofs.Cost.{of-cost}
@@ -28,6 +29,7 @@ promises = record {
   asking-to-end = of-asking-to-end;
   writing = of-writing;
   mending = of-mending;
+  graphing = of-graphs;
   printing = of-printing;
   tables-timed = tables-timed;
   cost = of-cost;

@@ -123,7 +123,7 @@ reader-single : (bytes : List ℕ) → Single (readerRule bytes)
 reader-single bytes = single-by (Refuses bytes) (readingOf bytes .outcome) (λ k place f. outcome-of f)
 
 -- and so does 10: there is one smallest node
-one-smallest : {P : List ℕ} {v w : ℕ} → Smallest P v → Smallest P w → v ≡ w
+pub one-smallest : {P : List ℕ} {v w : ℕ} → Smallest P v → Smallest P w → v ≡ w
 one-smallest {P} {v} {w} a b = one-least (λ (u : ℕ). Reaches P u u) v w (a .here) (a .before) (b .here) (b .before)
 
 loop-single : (t : TaskTable) → Single (loopRule t)

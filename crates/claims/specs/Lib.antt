@@ -8,6 +8,7 @@ pub mod Withdraw
 pub mod Ask
 pub mod Write
 pub mod Mend
+pub mod Graph
 pub mod ToEnd
 pub mod Admit
 pub mod Print

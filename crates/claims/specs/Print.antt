@@ -1,18 +1,36 @@
--- All that is promised of what `plansheet` prints, and of the line that `mend` prints on standard error.
+-- All that is promised of what `plansheet` and `graphsheet` print, and of the line that `mend` prints on standard error.
 use mathlib.Core.Path.{_≡_}
+use mathlib.Core.Bool.{true, false}
 use mathlib.Core.List.{List, _++_}
 use Prim.Native.Nat.{ℕ, _≤_, _<_}
-use lib.ListN.{length, drop}
+use lib.ListN.{length, take, drop}
 use Rattle.refusals.specs.declared.Refusal.{Refusal}
-use Rattle.refusals.specs.Refusal.{refusalOf}
+use Rattle.refusals.specs.declared.Outcome.the-variants.{Accepted, Refused}
+use Rattle.refusals.specs.Refusal.{refusal as told, refusalOf}
 use Rattle.refusals.specs.Answer.{refused}
+use Rattle.tables.specs.declared.TaskTable.{TaskTable}
+use Rattle.graphs.specs.declared.Graph.{Graph}
+use Rattle.graphs.specs.Graph.{graphOf}
+use Rattle.ways.specs.Reaches.{Loops}
+use Rattle.rings.specs.Round.{Smallest}
 use Rattle.plans.specs.Calls.{taskOf, planCall}
 use Rattle.sheets.specs.Lines.{refusedLine}
 use Rattle.sheets.specs.Sheet.{sheetMax}
 use Rattle.sheets.specs.Printed.{tableSheet, sheetOf, printed}
 use Rattle.menders.specs.declared.Mending.{Mending}
 use Rattle.mendlines.specs.Line.{countsLine, mendLine}
+use Rattle.graphsheets.specs.Sheet.{relaxed, graphSheet}
 use Rattle.claims.specs.Rule.{IsAccepted, IsRefused}
+
+-- a text as graphsheet reads it, with id 1 and the largest period
+abbrev pub sheetGraph : (text : List ℕ) → Graph
+sheetGraph text = graphOf text 1 16777215
+
+-- a text of at most 65,536 bytes, whose table t is read
+pub record Tabled (text : List ℕ) (t : TaskTable) : Type 0 where
+  pub short : length text ≤ 65536
+  pub read : sheetGraph text .outcome ≡ Accepted
+  pub table : sheetGraph text .table ≡ t
 
 -- with words enough for a plan lent; "the programs use 0" as the cost
 pub record OfPrinting : Type 0 where
@@ -29,3 +47,15 @@ pub record OfPrinting : Type 0 where
   pub mend-counts : (m : Mending) → IsAccepted (m .answer) → mendLine m ≡ countsLine (m .counts)
   pub mend-refusal : (m : Mending) → IsRefused (m .answer) → mendLine m ≡ refusedLine (refusalOf (m .answer))
   pub mend-fits : (m : Mending) → length (mendLine m) ≤ sheetMax
+  -- graphsheet, of a text of at most 65,536 bytes: the line of the reading's refusal
+  pub graph-refusal : (text : List ℕ) (r : Refusal) → length text ≤ 65536 → sheetGraph text .outcome ≡ Refused r → graphSheet text ≡ refusedLine r
+  -- of a loop the line of 10, with the smallest node that is reached from itself
+  pub graph-loop : (text : List ℕ) (t : TaskTable) (node : ℕ) → Tabled text t → Smallest (t .parents) node → graphSheet text ≡ refusedLine (told 10 node)
+  -- else the sheet of its table with twice the path as the period, which is one: 11 does not occur
+  pub graph-sheet : (text : List ℕ) (t : TaskTable) → Tabled text t → (Loops (t .parents) (t .count) → ⊥) → graphSheet text ≡ tableSheet (relaxed t)
+  pub graph-period : (text : List ℕ) (t : TaskTable) → Tabled text t → (Loops (t .parents) (t .count) → ⊥) → (1 ≤ relaxed t .period) × (relaxed t .period ≤ 8388480)
+  -- of a longer text what the first 65,536 bytes give, where a comment ended the reading in them, else 22 at 65,536
+  pub graph-front : (text : List ℕ) → 65536 < length text → sheetGraph (take 65536 text) .commented ≡ true → graphSheet text ≡ graphSheet (take 65536 text)
+  pub graph-cut : (text : List ℕ) → 65536 < length text → sheetGraph (take 65536 text) .commented ≡ false → graphSheet text ≡ refusedLine (told 22 65536)
+  -- it fits the buffer, too
+  pub graph-fits : (text : List ℕ) → length (graphSheet text) ≤ sheetMax

@@ -8,6 +8,7 @@ use Rattle.claims.specs.Ask.{OfAsking}
 use Rattle.claims.specs.ToEnd.{OfAskingToEnd}
 use Rattle.claims.specs.Write.{OfWriting}
 use Rattle.claims.specs.Mend.{OfMending}
+use Rattle.claims.specs.Graph.{OfGraphs}
 use Rattle.claims.specs.Print.{OfPrinting}
 use Rattle.claims.specs.Diagram.{TablesTimed}
 use Rattle.claims.specs.Cost.{OfCost}
@@ -28,6 +29,7 @@ pub record Promises : Type 0 where
   pub asking-to-end : OfAskingToEnd
   pub writing : OfWriting
   pub mending : OfMending
+  pub graphing : OfGraphs
   pub printing : OfPrinting
   -- every loop-free table's starts, cuts and offsets are those of document 01
   pub tables-timed : TablesTimed

@@ -7,19 +7,13 @@ use libc::STDOUT_FILENO;
 // So many bytes hold every mended record.
 const RECORD_MAX: usize = 4_361;
 
-// Whether standard input, of which nothing was read, is at its end: a read that fails is no empty record.
-fn at_end() -> bool {
-    let mut byte = [0u8; 1];
-    libc::read(STDIN_FILENO, &mut byte) >= 0
-}
-
 fn main() {
     let mut given = [0u8; 65_809];
     let mut bytes = [0u8; RECORD_MAX];
     let mut out = [0u8; sheets::SHEET_MAX];
     let got = io::read_full(STDIN_FILENO, &mut given);
     if got == 0 {
-        if !at_end() {
+        if !inputs::at_end() {
             io::write_all(STDERR_FILENO, b"mend: standard input cannot be read\n");
             return;
         }

@@ -1,77 +1,35 @@
 -- What a draft can be. Every number that goes into the table passed its range, every list holds only nodes, and what no node has filled is still 0; so the
 -- table of a draft is one that the writer's ranges let through, and its sets are those of the lists.
-use Prim.Native.Nat.{ℕ, zero, suc, _+_, _-_, _^_, _≤_, _<_}
+use Prim.Native.Nat.{ℕ, zero, suc, _+_, _≤_, _<_}
 use mathlib.Core.Path.{_≡_, refl, sym, ap, subst, _∙_}
-use mathlib.Core.Logic.{⊎-elim}
 use mathlib.Core.Bool.{Bool, true, false}
 use mathlib.Core.List.{List, [], _∷_, _++_}
-use native.Mathlib.Nat.{not-suc-le-zero, eq-or-lt-of-le, zero-mul, add-zero}
+use native.Mathlib.Nat.{not-suc-le-zero}
 use native.Mathlib.Omega.{arith}
 use lib.ListN.{length, set, length-append, List·getD-append}
-use lib.Dec.{ltb, eqb}
+use lib.Dec.{ltb}
 use lib.Seq.{getD-at, getD-set-same, getD-set-other}
 use borrow.Author.Count as indices
-use borrow.Author.Tests.{eqb-true, ltb-true, ltb-false}
-use Rattle.plain.specs.Pick.{pick, one}
+use borrow.Author.Tests.{ltb-true, ltb-false}
+use Rattle.plain.specs.Pick.{pick}
 use Rattle.plain.specs.At.{at}
-use Rattle.plain.proofs.Picks.{true-false}
 use Rattle.refusals.specs.declared.Outcome.the-variants.{Accepted}
-use Rattle.sets.specs.Rule.{setOf}
-use Rattle.sets.proofs.Rule.{set-lt}
 use Rattle.tables.specs.declared.TaskTable.{TaskTable}
-use Rattle.tables.specs.Limits.{countMax}
 use Rattle.numbers.proofs.Cases.{clash}
 use Rattle.records.specs.Nodes.{withNode}
 use Rattle.records.specs.Reading.{headed}
 use Rattle.records.specs.Expected as reader
 use Rattle.records.proofs.Answers.{In, Head, Filling, filling-none, filling-more}
 use Rattle.menders.specs.declared.Draft.{Draft}
-use Rattle.listings.specs.Lists.{isListed, listSet}
+use Rattle.listings.specs.Lists.{listSet}
 use Rattle.menders.specs.Draft.{drawn, draftOf}
 use Rattle.menders.specs.Given.{Due, range, Next, nodeFrom, after, Meets, Gives, listAt, countsOf}
 use Rattle.menders.specs.Given.Due.{edition, id, period, count, execution, parentCount, parent}
 use Rattle.menders.specs.Given.Next.{number, nothing}
 use Rattle.menders.specs.Given.Meets.{begin, on}
-use Rattle.listings.proofs.Lists.{listed-behind, one-le}
+use Rattle.listings.proofs.Below.{Below, below-none, below-more, set-below}
 use Rattle.menders.proofs.Given.{Comes, comes, rule-refused, given-drawn}
 use Rattle.menders.proofs.Given.Comes.{refuses, gives}
-
--- only numbers below n are listed, and so the list's set holds only these
-Below : ℕ → List ℕ → Type 0
-Below n given = (k : ℕ) → isListed given k ≡ true → k < n
-
-below-none : (n : ℕ) → Below n []
-unfolding Below isListed
-below-none n k e = absurd (true-false e refl)
-
-below-more : (n : ℕ) (given : List ℕ) (v : ℕ) → v < n → Below n given → Below n (given ++ v ∷ [])
-unfolding Below
-below-more n given v h b k e = by (isListed given k) (eqb v k) refl refl (sym (listed-behind given v k) ∙ e)
-  where
-    by : (l q : Bool) → isListed given k ≡ l → eqb v k ≡ q → pick (isListed given k) true (eqb v k) ≡ true → k < n
-    by true q x y z = b k x
-    by false true x y z = let same = eqb-true v k y in omega arith
-    by false false x y z = absurd (true-false z (rw (x, y)))
-
--- a set by a rule that says 0 from n on
-set-cut : (f : ℕ → ℕ) (n d : ℕ) → n ≤ d → ((k : ℕ) → n ≤ k → f k ≡ 0) → setOf d f ≡ setOf n f
-unfolding setOf
-set-cut f n zero l z = let e : n ≡ 0 = omega arith in rw e
-set-cut f n (suc d) l z = ⊎-elim
-    (λ (e : n ≡ suc d). rw e)
-    (λ (h : n < suc d). rw (z d (omega arith), zero-mul (2 ^ d), add-zero (setOf d f)) (set-cut f n d (omega arith) z))
-    (eq-or-lt-of-le l)
-
-set-below : (n : ℕ) (given : List ℕ) → n ≤ countMax → Below n given → listSet given < 2 ^ n
-unfolding Below
-set-below n given h b = rw (set-cut (λ k. one (isListed given k)) n countMax h past) (set-lt (λ k. one (isListed given k)) (λ k. one-le (isListed given k)) n)
-  where
-    past : (k : ℕ) → n ≤ k → one (isListed given k) ≡ 0
-    past k l = by (isListed given k) refl
-      where
-        by : (t : Bool) → isListed given k ≡ t → one t ≡ 0
-        by true e = absurd (omega (arith, b k e))
-        by false e = refl
 
 -- the nodes before node i: their numbers in range, and the set of each one's parents that of its list
 pub record Read (i : ℕ) (t : TaskTable) (lists : List (List ℕ)) : Type 0 where

@@ -319,18 +319,7 @@ pub fn mend(given: &[u8], bytes: &mut [u8]) -> Mending
             counts: Counts::none(),
         };
     };
-    let table = draft.table;
-    let n = table.count;
-    let executions = table.execution;
-    let parents = table.parents;
-    let answer = writers::write_record(
-        &executions[..n],
-        &parents[..n],
-        bytes,
-        table.edition,
-        table.id,
-        table.period,
-    );
+    let answer = writers::write_table(draft.table, bytes);
     if answer.refusal != 0 {
         return Mending {
             answer,

@@ -7,6 +7,7 @@ use Rattle.boards.specs.declared.Row.{Row}
 use Rattle.plans.specs.Calls.{planCall}
 use Rattle.writers.specs.Writing.{writeCall}
 use Rattle.menders.specs.Mending.{Mended, mendCall}
+use Rattle.graphs.specs.Record.{graphCall}
 use Rattle.planner.specs.Calls.{Lent, noteCall, admitCall, withdrawCall, askCall, askToEndCall}
 
 -- planning: its answer, and the words after it
@@ -40,3 +41,7 @@ WriteAllows executions parents bytes edition id period after = after ≡ writeCa
 -- mending a record: its answer, the bytes after it, and the counts
 abbrev pub MendAllows : (given bytes : List ℕ) → Mended → Type 0
 MendAllows given bytes mended = mended ≡ mendCall given bytes
+
+-- reading a graph: its answer, and the bytes after it
+abbrev pub GraphAllows : (text bytes : List ℕ) (id period : ℕ) → After (List ℕ) → Type 0
+GraphAllows text bytes id period after = after ≡ graphCall text bytes id period

@@ -10,7 +10,7 @@ ghost use Prim.Native.Nat.{_<_};
 ghost use lib.ListN.{length};
 ghost use Rattle.boards.specs.Row.{rowsMax};
 ghost use Rattle.boards.specs.Change.{changed};
-ghost use Rattle.planner.specs.Allows.{PlanAllows, NoteAllows, AdmitAllows, WithdrawAllows, AskAllows, AskToEndAllows, WriteAllows, MendAllows};
+ghost use Rattle.planner.specs.Allows.{PlanAllows, NoteAllows, AdmitAllows, WithdrawAllows, AskAllows, AskToEndAllows, WriteAllows, MendAllows, GraphAllows};
 
 // The lent rows, by value.
 fn rows_of(board: &[Row]) -> Board
@@ -134,4 +134,12 @@ pub extern "C" fn planner_mend(given: &[u8], bytes: &mut [u8]) -> Mending
     ensures { λ r. ⌜ MendAllows (now (given .entry)) (now (bytes .entry)) (record { after = record { answer = r .answer; lent = now (bytes .exit) }; counts = r .counts }) ⌝ }
 {
     menders::mend(given, bytes)
+}
+
+// Reads the text of a Standard Task Graph and writes its record, with the caller's id and period; the value is the number of bytes.
+#[no_mangle]
+pub extern "C" fn planner_read_graph(text: &[u8], bytes: &mut [u8], id: u64, period: u64) -> Answer
+    ensures { λ r. ⌜ GraphAllows (now (text .entry)) (now (bytes .entry)) id period (record { answer = r; lent = now (bytes .exit) }) ⌝ }
+{
+    graphs::write_graph(text, bytes, id, period)
 }

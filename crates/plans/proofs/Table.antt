@@ -51,32 +51,42 @@ pub path-latest : (t : TaskTable) → path t ≡ latest (t .count) (finish t)
 unfolding pathOf
 path-latest t = refl
 
+module _ {t : TaskTable} (r : Plannable t) (f : loops (t .parents) (t .count) ≡ false) where
+  -- a node that runs finishes after 0
+  pub path-some : 0 < path t
+  path-some =
+      let runs = r .some-runs in
+      let a = runs .2 in
+      let b = diagram r f .ends (runs .0) (runs .1) in
+      let c = path-ge (t .parents) (t .execution) (t .count) (runs .0) in
+      omega arith
+
+  -- so there is a segment
+  segment-some : 0 < segmentCount t
+  segment-some =
+      let a = path-some in
+      let b = path-latest t in
+      let c = cut-none (t .count) (finish t) in
+      before-segment (t .count) (finish t) 0 (omega arith)
+
+  -- what the shares ask of the cut, with any period that the path fits
+  pub segmented : (T : ℕ) → path t ≤ T → Segmented T (work t) (path t) (segmentCount t) (threadsIn t) (lengthIn t)
+  unfolding workOf
+  segmented T fits = record {
+    path = path-latest t ∙ sym (lengths-sum (t .count) (finish t));
+    work = sym (work-sum (diagram r f) (r .count-high));
+    threads = some-thread (diagram r f) (r .count-high);
+    lengths = lengthOf-pos (t .count) (finish t);
+    within = fits;
+    some = segment-some;
+  }
+
 module _ {t : TaskTable} (ok : Planned t) where
   pub drawn : Diagram (t .count) (start t) (finish t) (at (t .execution))
   drawn = diagram (ok .range) (ok .free)
 
-  -- a node that runs finishes after 0, so there is a segment
-  pub segment-some : 0 < segmentCount t
-  segment-some =
-      let runs = ok .range .some-runs in
-      let a = runs .2 in
-      let b = drawn .ends (runs .0) (runs .1) in
-      let c = path-ge (t .parents) (t .execution) (t .count) (runs .0) in
-      let d = cut-none (t .count) (finish t) in
-      let e = path-latest t in
-      before-segment (t .count) (finish t) 0 (omega arith)
-
-  -- what the shares ask of the cut
   pub cutting : Segmented (t .period) (work t) (path t) (segmentCount t) (threadsIn t) (lengthIn t)
-  unfolding workOf
-  cutting = record {
-    path = path-latest t ∙ sym (lengths-sum (t .count) (finish t));
-    work = sym (work-sum drawn (ok .range .count-high));
-    threads = some-thread drawn (ok .range .count-high);
-    lengths = lengthOf-pos (t .count) (finish t);
-    within = ok .fits;
-    some = segment-some;
-  }
+  cutting = segmented (ok .range) (ok .free) (t .period) (ok .fits)
 
 -- a table that was read can be planned with any cost in range
 pub read-plannable : (bytes : List ℕ) {r : Reading} {cost : ℕ} → r ≡ readingOf bytes → readingOf bytes .outcome ≡ Read → cost ≤ costMax → Plannable (costed (r .table) cost)

@@ -3,18 +3,12 @@ use libc::STDERR_FILENO;
 use libc::STDIN_FILENO;
 use libc::STDOUT_FILENO;
 
-// Whether standard input, of which nothing was read, is at its end: a read that fails is no empty record.
-fn at_end() -> bool {
-    let mut byte = [0u8; 1];
-    libc::read(STDIN_FILENO, &mut byte) >= 0
-}
-
 fn main() {
     let mut record = [0u8; 8192];
     let mut out = [0u8; sheets::SHEET_MAX];
     let got = io::read_full(STDIN_FILENO, &mut record);
     if got == 0 {
-        if !at_end() {
+        if !inputs::at_end() {
             io::write_all(STDERR_FILENO, b"plansheet: standard input cannot be read\n");
             return;
         }

@@ -85,6 +85,14 @@ verdictNo = 20
 abbrev pub noneRuns : ℕ
 noneRuns = 21
 
+-- the text breaks the layout
+abbrev pub badLayout : ℕ
+badLayout = 22
+
+-- a count above 62
+abbrev pub manyTasks : ℕ
+manyTasks = 23
+
 -- cost above 255
 abbrev pub highCost : ℕ
 highCost = 26

@@ -3,7 +3,7 @@ ghost use mathlib.Core.Path.{_≡_};
 ghost use Rattle.refusals.specs.Refusal.{refusal, looped, refusalOf};
 ghost use Rattle.refusals.specs.InOrder.{inOrder};
 ghost use Rattle.refusals.specs.Answer.{accepted, refused, answerOf};
-ghost use Rattle.refusals.specs.Numbers.{ended, tooLong, badEdition, badId, badPeriod, badCount, badExecution, badParent, bytesFollow, loop, longPath, idStands, boardFull, notStanding, badCores, fewWords, unsoundBoard, notShortest, wrongLength, verdictNo, noneRuns, highCost};
+ghost use Rattle.refusals.specs.Numbers.{ended, tooLong, badEdition, badId, badPeriod, badCount, badExecution, badParent, bytesFollow, loop, longPath, idStands, boardFull, notStanding, badCores, fewWords, unsoundBoard, notShortest, wrongLength, verdictNo, noneRuns, badLayout, manyTasks, highCost};
 
 // A number of the table; a place: a byte of the input, for 10 a node, else 0; for 10 the nodes of a loop, else none.
 pub struct Refusal {
@@ -54,6 +54,10 @@ impl Refusal {
     pub const VERDICT_NO: u64 = 20;
 
     pub const NONE_RUNS: u64 = 21;
+
+    pub const BAD_LAYOUT: u64 = 22;
+
+    pub const MANY_TASKS: u64 = 23;
 
     pub const HIGH_COST: u64 = 26;
 
@@ -176,5 +180,7 @@ pub fn constants_named()
     ensures { λ _. do ⌜ (← ⟦Refusal::WRONG_LENGTH⟧ .entry) ≡ wrongLength ⌝ }
     ensures { λ _. do ⌜ (← ⟦Refusal::VERDICT_NO⟧ .entry) ≡ verdictNo ⌝ }
     ensures { λ _. do ⌜ (← ⟦Refusal::NONE_RUNS⟧ .entry) ≡ noneRuns ⌝ }
+    ensures { λ _. do ⌜ (← ⟦Refusal::BAD_LAYOUT⟧ .entry) ≡ badLayout ⌝ }
+    ensures { λ _. do ⌜ (← ⟦Refusal::MANY_TASKS⟧ .entry) ≡ manyTasks ⌝ }
     ensures { λ _. do ⌜ (← ⟦Refusal::HIGH_COST⟧ .entry) ≡ highCost ⌝ }
 {}

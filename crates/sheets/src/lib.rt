@@ -55,7 +55,7 @@ pub fn put_refusal(out: &mut [u8], refusal: Refusal) -> usize
 }
 
 // The sheet of a table that was read, without a cost.
-fn put_table(out: &mut [u8], table: TaskTable) -> usize
+pub fn put_table(out: &mut [u8], table: TaskTable) -> usize
     requires { ⌜ (sheetMax ≤ length (now out)) × Plannable (costed table sheetCost) ⌝ }
     ensures { λ r. ⌜ Wrote 0 (onTable refusedLine tableSheet (costed table sheetCost)) (now (out .entry)) (now (out .exit)) r ⌝ }
 {

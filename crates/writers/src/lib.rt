@@ -5,7 +5,7 @@ use refusals::Refusal;
 use tables::TaskTable;
 ghost use mathlib.Core.Path.{_≡_};
 ghost use Prim.Native.Nat.{ℕ, _+_, _≤_};
-ghost use lib.ListN.{length};
+ghost use lib.ListN.{length, take};
 ghost use lib.Seq.{sets};
 ghost use Rattle.plain.specs.At.{at};
 ghost use Rattle.tables.specs.Limits.{editionMax, idMax, periodMax, countMax, executionMax};
@@ -230,4 +230,22 @@ pub fn write_record(
     let nodes_at = write_head(bytes, edition, id, period, n as u64);
     write_nodes(executions, parents, bytes, nodes_at);
     Answer::accepted(size as u64)
+}
+
+// Writes the record of a table: that of its nodes' two lists.
+pub fn write_table(table: TaskTable, bytes: &mut [u8]) -> Answer
+    requires { ⌜ table .count ≤ countMax ⌝ }
+    ensures { λ r. ⌜ record { answer = r; lent = now (bytes .exit) } ≡ writeCall (take (table .count) (table .execution)) (take (table .count) (table .parents)) (now (bytes .entry)) (table .edition) (table .id) (table .period) ⌝ }
+{
+    let n = table.count;
+    let executions = table.execution;
+    let parents = table.parents;
+    write_record(
+        &executions[..n],
+        &parents[..n],
+        bytes,
+        table.edition,
+        table.id,
+        table.period,
+    )
 }

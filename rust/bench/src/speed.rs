@@ -31,9 +31,14 @@ pub fn print() {
     asking();
     let (written, read) = writing();
     let mended = mending();
+    let graph = graph_reading();
     guard(&noted, &admitted);
-    both_ways(written, read);
-    mended_over(mended, written, read);
+    let record = "the time to write the longest record over the time to read it";
+    over(record, written, read);
+    let mend = "the time to mend the longest record over the times to read and to write it";
+    over(mend, mended, (read.0 + written.0, read.1 + written.1));
+    let text = "the time to read the longest record's text over the time to write the record";
+    over(text, graph, written);
 }
 
 /// The names' column.
@@ -298,11 +303,12 @@ fn write_times(task: &Task) -> (f64, f64) {
     )
 }
 
-fn both_ways(written: (f64, f64), read: (f64, f64)) {
+/// A table of one row: how many times as long as the others these times are.
+fn over(title: &str, times: (f64, f64), others: (f64, f64)) {
     println!();
-    println!("the time to write the longest record over the time to read it");
+    println!("{title}");
     println!("{:NAMES$}{:>9}{:>11}", "", "library", "reference");
-    let (library, reference) = (written.0 / read.0, written.1 / read.1);
+    let (library, reference) = (times.0 / others.0, times.1 / others.1);
     println!("{:NAMES$}{library:9.2}{reference:11.2}", "64 nodes");
 }
 
@@ -335,11 +341,32 @@ fn mend_times(given: &[u8]) -> (f64, f64) {
     )
 }
 
-fn mended_over(mended: (f64, f64), written: (f64, f64), read: (f64, f64)) {
-    println!();
-    println!("the time to mend the longest record over the times to read and to write it");
-    println!("{:NAMES$}{:>9}{:>11}", "", "library", "reference");
-    let library = mended.0 / (read.0 + written.0);
-    let reference = mended.1 / (read.1 + written.1);
-    println!("{:NAMES$}{library:9.2}{reference:11.2}", "64 nodes");
+/// The times of the text that the longest record is written of.
+fn graph_reading() -> (f64, f64) {
+    let text = Task::longest_text();
+    let read = graph_times(&text);
+    let name = format!("read a text of {} bytes, write {LONGEST}", text.len());
+    line(&name, read);
+    read
+}
+
+fn graph_times(text: &[u8]) -> (f64, f64) {
+    let Task { id, period, .. } = Task::longest();
+    let mut bytes = [Aligned([0; LONGEST]); 2];
+    let [Aligned(library), Aligned(reference)] = &mut bytes;
+    // A refusal would be over sooner.
+    let answer = ffi::read_graph(text, library, id, period);
+    assert_eq!(answer.value, LONGEST as u64);
+    pair(
+        || {
+            let (text, bytes) = (black_box(text), black_box(&mut *library));
+            let (id, period) = black_box((id, period));
+            black_box(ffi::read_graph(text, bytes, id, period));
+        },
+        || {
+            let (text, bytes) = (black_box(text), black_box(&mut *reference));
+            let (id, period) = black_box((id, period));
+            black_box(reference::read_graph(text, bytes, id, period));
+        },
+    )
 }

@@ -31,7 +31,8 @@ pub fn print() {
     println!("stack in bytes, with the small frame that makes the call; for plan, note and");
     println!("admit the deepest of 64 nodes in each shape, a chain half of joins, the ring and");
     println!("the longest record, at cost {COST}; admit is for {CORES} cores, which have room;");
-    println!("write is of the longest record, mend of that and of the longest that is mended");
+    println!("write is of the longest record, mend of that and of the longest that is mended,");
+    println!("read a graph of the longest record's text");
     println!("{:42}{:>9}{:>11}", "", "library", "reference");
     let with_id = |(shape, id)| roomy_record(shape, 64, id);
     let shapes = SHAPES.into_iter().chain([RING]);
@@ -42,6 +43,7 @@ pub fn print() {
     board_depths();
     write_depths();
     line("mend", mend_depth(ffi::mend), mend_depth(reference::mend));
+    graph_depths();
     if cfg!(target_arch = "x86_64") {
         step_depth();
     }
@@ -170,6 +172,24 @@ fn mend_depth(mend: impl Fn(&[u8], &mut [u8]) -> Mending + Send + Sync) -> usize
         black_box(mend(given, black_box(&mut bytes)));
     });
     assert_eq!(bytes[..], longest);
+    depth
+}
+
+fn graph_depths() {
+    let library = graph_depth(ffi::read_graph);
+    let reference = graph_depth(reference::read_graph);
+    line("read a graph", library, reference);
+}
+
+fn graph_depth(read: impl Fn(&[u8], &mut [u8], u64, u64) -> Answer + Send + Sync) -> usize {
+    let task = Task::longest();
+    let text = Task::longest_text();
+    let mut bytes = [0; LONGEST];
+    let depth = depth(&mut || {
+        black_box(read(&text, black_box(&mut bytes), task.id, task.period));
+    });
+    let record = Task { edition: 2, ..task }.record();
+    assert_eq!(bytes[..], record);
     depth
 }
 

@@ -1,9 +1,10 @@
 //! One case: buffers as they are lent, and calls made on them in turn, by
 //! the library and by the reference, each on its own copy.
 
+use crate::graph::Graph;
 use crate::guarded::{self, Buffers, Guard};
 use crate::writing::{old_bytes, Writing};
-use crate::{mended, rounds, sales, written};
+use crate::{graphed, mended, rounds, sales, written};
 use reference::{Answer, Mending, Row};
 
 #[derive(Clone, PartialEq)]
@@ -25,6 +26,7 @@ pub enum Call {
         given: Vec<u8>,
         lent: u64,
     },
+    ReadGraph(Graph),
 }
 
 impl Call {
@@ -56,7 +58,11 @@ impl Call {
             | Call::Note(record, _)
             | Call::Admit { record, .. }
             | Call::Mend { given: record, .. } => Some(record),
-            Call::Withdraw(_) | Call::Ask(_) | Call::AskToEnd(_) | Call::Write(_) => None,
+            Call::Withdraw(_)
+            | Call::Ask(_)
+            | Call::AskToEnd(_)
+            | Call::Write(_)
+            | Call::ReadGraph(_) => None,
         }
     }
 }
@@ -80,8 +86,8 @@ impl Case {
 }
 
 /// The first call after which the two sides aren't equal, or the library's
-/// answer breaks a rule of loops, of admitting, of writing or of mending, or a
-/// promise of the sales sheet.
+/// answer breaks a rule of loops, of admitting, of writing, of mending or of
+/// graphs, or a promise of the sales sheet.
 pub struct Difference {
     pub call: usize,
     pub library: Mending,
@@ -92,7 +98,7 @@ pub struct Difference {
     pub broken: Option<&'static str>,
 }
 
-/// The eight calls of one side.
+/// The nine calls of one side.
 struct Planner {
     plan: fn(&[u8], &mut [u64], u64) -> Answer,
     note: fn(&[u8], &mut [u64], &mut [Row], u64) -> Answer,
@@ -102,6 +108,7 @@ struct Planner {
     ask_to_end: fn(&[Row], u64) -> Answer,
     write_record: fn(&[u64], &[u64], &mut [u8], u64, u64, u64) -> Answer,
     mend: fn(&[u8], &mut [u8]) -> Mending,
+    read_graph: fn(&[u8], &mut [u8], u64, u64) -> Answer,
 }
 
 const LIBRARY: Planner = Planner {
@@ -113,6 +120,7 @@ const LIBRARY: Planner = Planner {
     ask_to_end: ffi::ask_to_end,
     write_record: ffi::write_record,
     mend: ffi::mend,
+    read_graph: ffi::read_graph,
 };
 
 const REFERENCE: Planner = Planner {
@@ -124,6 +132,7 @@ const REFERENCE: Planner = Planner {
     ask_to_end: reference::ask_to_end,
     write_record: reference::write_record,
     mend: reference::mend,
+    read_graph: reference::read_graph,
 };
 
 /// What is counted over the calls, where nothing differs.
@@ -132,6 +141,7 @@ pub struct Tally {
     pub guarded: guarded::Tally,
     pub written: written::Tally,
     pub mended: mended::Tally,
+    pub graphed: graphed::Tally,
 }
 
 impl Tally {
@@ -139,6 +149,7 @@ impl Tally {
         self.guarded.add(&other.guarded);
         self.written.add(&other.written);
         self.mended.add(&other.mended);
+        self.graphed.add(&other.graphed);
     }
 }
 
@@ -170,6 +181,7 @@ pub fn compared(case: &Case) -> Result<Tally, Box<Difference>> {
         tally.guarded.count(call, &ours.answer);
         tally.written.count(call, &ours.answer);
         tally.mended.count(call, &ours);
+        tally.graphed.count(call, &ours.answer);
     }
     Ok(tally)
 }
@@ -182,6 +194,7 @@ struct Lent {
     record: Fenced<u8>,
     executions: Fenced<u64>,
     parents: Fenced<u64>,
+    text: Fenced<u8>,
     bytes: Fenced<u8>,
 }
 
@@ -204,6 +217,7 @@ impl Lent {
             record: Fenced::new(&[], 1),
             executions: Fenced::new(&[], 1),
             parents: Fenced::new(&[], 1),
+            text: Fenced::new(&[], b'1'),
             bytes: Fenced::new(&[], 0xFE),
         }
     }
@@ -220,6 +234,10 @@ impl Lent {
                 self.bytes.refill(&old_bytes(writing.lent));
             }
             Call::Mend { lent, .. } => self.bytes.refill(&old_bytes(*lent)),
+            Call::ReadGraph(graph) => {
+                self.text.refill(&graph.text);
+                self.bytes.refill(&old_bytes(graph.lent));
+            }
             _ => (),
         }
     }
@@ -249,6 +267,9 @@ impl Lent {
                 (by.write_record)(executions, parents, bytes, edition, id, period)
             }
             Call::Mend { .. } => return (by.mend)(self.record.inside(), self.bytes.inside()),
+            Call::ReadGraph(Graph { id, period, .. }) => {
+                (by.read_graph)(self.text.inside(), self.bytes.inside(), id, period)
+            }
         };
         Mending {
             answer,
@@ -265,6 +286,7 @@ impl Lent {
             .or_else(|| guarded::broken(call, answer, before.buffers(), self.buffers()))
             .or_else(|| written::broken(call, answer, self.bytes.content()))
             .or_else(|| mended::broken(call, mending, self.bytes.content()))
+            .or_else(|| graphed::broken(call, answer, self.bytes.content()))
     }
 
     fn buffers(&self) -> Buffers<'_> {
@@ -283,12 +305,17 @@ impl Lent {
             self.parents
                 .first_difference(&reference.parents, "set of parents")
         };
+        let text = || {
+            self.text
+                .first_difference(&reference.text, "byte of the text")
+        };
         let written = || {
             self.bytes
                 .first_difference(&reference.bytes, "written byte")
         };
         let read = word.or_else(row).or_else(byte);
-        read.or_else(execution).or_else(set).or_else(written)
+        let read = read.or_else(execution).or_else(set).or_else(text);
+        read.or_else(written)
     }
 }
 

@@ -9,6 +9,8 @@ use crate::chance::{
 use crate::costs::{self, ALLOWED, COSTS, REFUSED};
 use crate::draft::Draft;
 use crate::fits::{guarded_call, tight_fit};
+use crate::graph::Graph;
+use crate::graphing::{self, any_graph};
 use crate::joins::{self, sprinkle};
 use crate::lists::{self, any_writing};
 use crate::loops::drawings;
@@ -93,6 +95,14 @@ impl Run {
         self.family("counts to mend", Run::counts_to_mend)?;
         self.family("lengths to mend", Run::lengths_to_mend)?;
         self.family("records to mend", Run::records_to_mend)?;
+        self.family("cuts of texts", Run::cuts_of_texts)?;
+        self.family("bytes of texts", Run::bytes_of_texts)?;
+        self.family("words of texts", Run::words_of_texts)?;
+        self.family("numbers in texts", Run::numbers_in_texts)?;
+        self.family("faults in texts", Run::faults_in_texts)?;
+        self.family("lengths for texts", Run::lengths_for_texts)?;
+        self.family("counts in texts", Run::counts_in_texts)?;
+        self.family("texts", Run::texts)?;
         self.family("by chance", Run::by_chance)
     }
 
@@ -523,6 +533,47 @@ impl Run {
         Ok(())
     }
 
+    fn read_each(&mut self, graphs: fn(&mut Random) -> Vec<Graph>) -> Outcome {
+        let mut graphs = graphs(&mut self.random).into_iter();
+        graphs.try_for_each(|graph| self.alone(Call::ReadGraph(graph)))
+    }
+
+    fn cuts_of_texts(&mut self) -> Outcome {
+        self.read_each(graphing::cuts)
+    }
+
+    fn bytes_of_texts(&mut self) -> Outcome {
+        self.read_each(graphing::bytes)
+    }
+
+    fn words_of_texts(&mut self) -> Outcome {
+        self.read_each(graphing::words)
+    }
+
+    fn numbers_in_texts(&mut self) -> Outcome {
+        self.read_each(graphing::numbers)
+    }
+
+    fn faults_in_texts(&mut self) -> Outcome {
+        self.read_each(graphing::faults)
+    }
+
+    fn lengths_for_texts(&mut self) -> Outcome {
+        self.read_each(graphing::lengths)
+    }
+
+    fn counts_in_texts(&mut self) -> Outcome {
+        self.read_each(graphing::counts)
+    }
+
+    fn texts(&mut self) -> Outcome {
+        for _ in 0..10_000 {
+            let graph = any_graph(&mut self.random);
+            self.alone(Call::ReadGraph(graph))?;
+        }
+        Ok(())
+    }
+
     fn by_chance(&mut self) -> Outcome {
         while self.compared < self.wanted {
             self.one_by_chance()?;
@@ -568,6 +619,10 @@ impl Run {
             41..=48 => {
                 let mending = any_mending(random);
                 self.alone(mending)
+            }
+            49..=56 => {
+                let graph = any_graph(random);
+                self.alone(Call::ReadGraph(graph))
             }
             _ => {
                 let record = random_task(random, cost).record();

@@ -9,6 +9,9 @@ mod draft;
 mod edition1;
 mod families;
 mod fits;
+mod graph;
+mod graphed;
+mod graphing;
 mod guarded;
 mod joins;
 mod lists;
@@ -17,10 +20,12 @@ mod mended;
 mod mending;
 mod random;
 mod records;
+mod refused;
 mod report;
 mod rounds;
 mod sales;
 mod shrink;
+mod sketch;
 mod stored;
 mod tasks;
 mod to_end;
@@ -28,7 +33,6 @@ mod writing;
 mod written;
 
 use families::Run;
-use std::collections::BTreeMap;
 use std::env;
 use std::process::ExitCode;
 
@@ -40,7 +44,7 @@ struct Options {
 
 fn options() -> Option<Options> {
     let mut options = Options {
-        cases: 500_000,
+        cases: 600_000,
         seed: 1,
         store: false,
     };
@@ -97,7 +101,7 @@ fn print_tally(Run { tally, again, .. }: &Run) {
     let guarded::Tally { kept, turned_away } = tally.guarded;
     println!("of these, tasks admitted: {kept}, turned away by 20: {turned_away}");
     let written::Tally { written, refused } = &tally.written;
-    println!("records written: {written}, refused by{}", by(refused));
+    println!("records written: {written}, refused by {refused}");
     let mended::Tally {
         mended,
         sloppy,
@@ -106,14 +110,10 @@ fn print_tally(Run { tally, again, .. }: &Run) {
         dropped,
         refused,
     } = &tally.mended;
-    println!("records mended: {mended}, refused by{}", by(refused));
+    println!("records mended: {mended}, refused by {refused}");
     print!("sloppy ones mended: {sloppy}, with numbers padded: {padded}, ");
     println!("lists reordered: {reordered}, parents dropped: {dropped}");
+    let graphed::Tally { read, refused } = &tally.graphed;
+    println!("graphs read: {read}, refused by {refused}");
     println!("records read, then written and mended, byte for byte: {again}");
-}
-
-/// How often each number came.
-fn by(refused: &BTreeMap<u64, u64>) -> String {
-    let by = |(number, count)| format!(" {number}: {count}");
-    refused.iter().map(by).collect::<Vec<_>>().join(",")
 }

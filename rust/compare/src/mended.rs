@@ -4,11 +4,11 @@
 
 use crate::case::Call;
 use crate::draft::{Draft, Node, Spelt};
+use crate::refused::Refused;
 use crate::writing::old_bytes;
 use crate::written;
 use ffi::task::encoded;
 use reference::{Answer, Mending};
-use std::collections::BTreeMap;
 
 /// A rule in words, and whether it holds.
 type Rule = (&'static str, fn(&Mended) -> bool);
@@ -58,7 +58,7 @@ pub fn broken(call: &Call, mending: &Mending, bytes: &[u8]) -> Option<&'static s
 }
 
 /// The most bytes that are written.
-const LONGEST: usize = 4_361;
+pub const LONGEST: usize = 4_361;
 
 /// An answer and the bytes after it, beside the refusal of reading what was
 /// given.
@@ -205,7 +205,7 @@ pub struct Tally {
     pub padded: u64,
     pub reordered: u64,
     pub dropped: u64,
-    pub refused: BTreeMap<u64, u64>,
+    pub refused: Refused,
 }
 
 impl Tally {
@@ -215,7 +215,7 @@ impl Tally {
         }
         match mending.answer.refusal {
             0 => self.mended += 1,
-            number => *self.refused.entry(number).or_default() += 1,
+            number => self.refused.count(number),
         }
         self.sloppy += u64::from(*mending != uncounted(mending.answer));
         self.padded += mending.padded;
@@ -229,8 +229,6 @@ impl Tally {
         self.padded += other.padded;
         self.reordered += other.reordered;
         self.dropped += other.dropped;
-        for (number, count) in &other.refused {
-            *self.refused.entry(*number).or_default() += count;
-        }
+        self.refused.add(&other.refused);
     }
 }

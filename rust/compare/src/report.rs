@@ -1,6 +1,7 @@
 //! Printing a difference.
 
 use crate::case::{difference, Call, Case};
+use crate::graph::Graph;
 use crate::stored::Changed;
 use crate::writing::Writing;
 use reference::{Answer, Mending, Row};
@@ -78,6 +79,7 @@ fn text(call: &Call) -> String {
         Call::AskToEnd(cores) => format!("ask to the end {cores}"),
         Call::Write(writing) => writing_text(writing),
         Call::Mend { given, lent } => format!("mend into {lent} bytes, {}", bytes(given)),
+        Call::ReadGraph(graph) => graph_text(graph),
     }
 }
 
@@ -93,6 +95,20 @@ fn writing_text(writing: &Writing) -> String {
     format!(
         "write edition {edition} id {id} period {period} into {lent} bytes, \
          executions {executions:?}, parents in hex {parents:X?}"
+    )
+}
+
+fn graph_text(graph: &Graph) -> String {
+    let Graph {
+        text,
+        id,
+        period,
+        lent,
+    } = graph;
+    format!(
+        "read a graph with id {id} period {period} into {lent} bytes, {} bytes: \"{}\"",
+        text.len(),
+        text.escape_ascii()
     )
 }
 

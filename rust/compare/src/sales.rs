@@ -35,7 +35,8 @@ pub fn broken(call: &Call, answer: &Answer, board: &[Row]) -> Option<&'static st
         | Call::Admit { .. }
         | Call::Withdraw(_)
         | Call::Write(_)
-        | Call::Mend { .. } => return None,
+        | Call::Mend { .. }
+        | Call::ReadGraph(_) => return None,
     };
     if answer.refusal != 0 {
         return None;

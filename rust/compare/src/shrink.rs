@@ -3,6 +3,8 @@
 
 use crate::case::{difference, Call, Case};
 use crate::draft::Draft;
+use crate::graph::Graph;
+use crate::sketch::Sketch;
 use crate::writing::Writing;
 use reference::Row;
 
@@ -81,6 +83,7 @@ fn shrink_call(case: &mut Case, at: usize) {
             shrink_reading(case, at);
         }
         Call::Write(_) => shrink_writing(case, at),
+        Call::ReadGraph(_) => shrink_graph(case, at),
     }
 }
 
@@ -108,9 +111,11 @@ fn record_and_number(case: &mut Case, at: usize) -> (&mut Vec<u8>, &mut u64) {
             (record, cost)
         }
         Call::Mend { given, lent } => (given, lent),
-        Call::Withdraw(_) | Call::Ask(_) | Call::AskToEnd(_) | Call::Write(_) => {
-            unreachable!("this call has no record")
-        }
+        Call::Withdraw(_)
+        | Call::Ask(_)
+        | Call::AskToEnd(_)
+        | Call::Write(_)
+        | Call::ReadGraph(_) => unreachable!("this call has no record"),
     }
 }
 
@@ -232,6 +237,74 @@ fn shrink_writing(case: &mut Case, at: usize) {
     for field in WRITING_FIELDS {
         lower(*field(writing(case, at)), |value| {
             keeps(case, |case| *field(writing(case, at)) = value)
+        });
+    }
+}
+
+const GRAPH_FIELDS: [fn(&mut Graph) -> &mut u64; 3] = [
+    |graph| &mut graph.period,
+    |graph| &mut graph.id,
+    |graph| &mut graph.lent,
+];
+
+fn graph(case: &mut Case, at: usize) -> &mut Graph {
+    match &mut case.calls[at] {
+        Call::ReadGraph(graph) => graph,
+        _ => unreachable!("this call reads no graph"),
+    }
+}
+
+/// Takes the text apart, and the change over if there is still a difference.
+fn redraws(case: &mut Case, at: usize, change: impl FnOnce(&mut Sketch)) -> bool {
+    let mut sketch = Sketch::of(&graph(case, at).text);
+    change(&mut sketch);
+    keeps(case, |case| graph(case, at).text = sketch.text())
+}
+
+/// Tasks, predecessors, partings and values, bytes, then what comes beside it.
+fn shrink_graph(case: &mut Case, at: usize) {
+    let tasks = Sketch::of(&graph(case, at).text).tasks().len();
+    drop_parts(tasks, |first, length| {
+        redraws(case, at, |sketch| sketch.drop_tasks(first, length))
+    });
+    shrink_predecessors(case, at);
+    shrink_spelling(case, at);
+    drop_parts(graph(case, at).text.len(), |first, length| {
+        keeps(case, |case| {
+            graph(case, at).text.drain(first..first + length);
+        })
+    });
+    for field in GRAPH_FIELDS {
+        lower(*field(graph(case, at)), |value| {
+            keeps(case, |case| *field(graph(case, at)) = value)
+        });
+    }
+}
+
+fn shrink_predecessors(case: &mut Case, at: usize) {
+    let tasks = |case: &mut Case| Sketch::of(&graph(case, at).text).tasks();
+    for task in 0..tasks(case).len() {
+        let Some(words) = tasks(case).get(task).cloned() else {
+            return;
+        };
+        let predecessors = words.start + 3;
+        drop_parts(words.end - predecessors, |first, length| {
+            redraws(case, at, |sketch| {
+                sketch.drop_predecessors(words.start, predecessors + first, length)
+            })
+        });
+    }
+}
+
+/// Each word with a space before it or none, and numbers as low as they can be.
+fn shrink_spelling(case: &mut Case, at: usize) {
+    for word in 0..Sketch::of(&graph(case, at).text).words.len() {
+        redraws(case, at, |sketch| {
+            sketch.words[word].before = vec![b' '; word.min(1)]
+        });
+        let value = Sketch::of(&graph(case, at).text).words[word].value();
+        lower(value.unwrap_or(0), |value| {
+            redraws(case, at, |sketch| sketch.words[word].set(value))
         });
     }
 }

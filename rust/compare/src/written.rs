@@ -3,10 +3,10 @@
 //! reading would refuse that one, writing has to refuse the lists.
 
 use crate::case::Call;
+use crate::refused::Refused;
 use crate::writing::{old_bytes, Writing};
 use ffi::task::encoded;
 use reference::{Answer, Table, PLAN_WORDS};
-use std::collections::BTreeMap;
 
 /// A rule in words, and whether it holds.
 type Rule = (&'static str, fn(&Written) -> bool);
@@ -152,7 +152,7 @@ fn lists(table: &Table) -> (&[u64], &[u64]) {
     (&executions[..*count], &parents[..*count])
 }
 
-fn refused(refusal: u64, place: u64) -> Answer {
+pub fn refused(refusal: u64, place: u64) -> Answer {
     Answer {
         refusal,
         place,
@@ -163,15 +163,20 @@ fn refused(refusal: u64, place: u64) -> Answer {
 /// What has to give that record again, if the reference reads it.
 pub fn again(record: &[u8]) -> Option<Writing> {
     let table = reference::read(record).ok()?;
-    let (executions, parents) = lists(&table);
-    Some(Writing {
+    Some(of(&table, record.len() as u64))
+}
+
+/// A table to be written into so many bytes.
+pub fn of(table: &Table, lent: u64) -> Writing {
+    let (executions, parents) = lists(table);
+    Writing {
         edition: table.edition,
         id: table.id,
         period: table.period,
         executions: executions.to_vec(),
         parents: parents.to_vec(),
-        lent: record.len() as u64,
-    })
+        lent,
+    }
 }
 
 /// Whether the library writes that record, byte for byte.
@@ -197,22 +202,20 @@ pub fn gives(writing: &Writing, record: &[u8]) -> bool {
 #[derive(Default)]
 pub struct Tally {
     pub written: u64,
-    pub refused: BTreeMap<u64, u64>,
+    pub refused: Refused,
 }
 
 impl Tally {
     pub fn count(&mut self, call: &Call, answer: &Answer) {
         match (call, answer.refusal) {
             (Call::Write(_), 0) => self.written += 1,
-            (Call::Write(_), number) => *self.refused.entry(number).or_default() += 1,
+            (Call::Write(_), number) => self.refused.count(number),
             _ => (),
         }
     }
 
     pub fn add(&mut self, other: &Tally) {
         self.written += other.written;
-        for (number, count) in &other.refused {
-            *self.refused.entry(*number).or_default() += count;
-        }
+        self.refused.add(&other.refused);
     }
 }

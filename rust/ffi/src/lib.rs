@@ -1,4 +1,4 @@
-//! The proved library's C interface as eight ordinary calls, so that it can
+//! The proved library's C interface as nine ordinary calls, so that it can
 //! stand wherever the reference can; and the tasks both programs feed to it.
 
 pub mod task;
@@ -50,6 +50,14 @@ extern "C" {
         period: u64,
     ) -> Answer;
     fn planner_mend(given: *const u8, length: usize, bytes: *mut u8, lent: usize) -> Mending;
+    fn planner_read_graph(
+        text: *const u8,
+        length: usize,
+        bytes: *mut u8,
+        lent: usize,
+        id: u64,
+        period: u64,
+    ) -> Answer;
 }
 
 pub fn plan(record: &[u8], words: &mut [u64], cost: u64) -> Answer {
@@ -112,4 +120,12 @@ pub fn mend(given: &[u8], bytes: &mut [u8]) -> Mending {
     // SAFETY: each pointer goes with its own slice's length; the two do not
     // overlap.
     unsafe { planner_mend(given.as_ptr(), length, bytes.as_mut_ptr(), lent) }
+}
+
+pub fn read_graph(text: &[u8], bytes: &mut [u8], id: u64, period: u64) -> Answer {
+    let (length, lent) = (text.len(), bytes.len());
+    let (text, bytes) = (text.as_ptr(), bytes.as_mut_ptr());
+    // SAFETY: each pointer goes with its own slice's length; the two do not
+    // overlap.
+    unsafe { planner_read_graph(text, length, bytes, lent, id, period) }
 }

@@ -1,4 +1,4 @@
-//! Tasks, their records, and some shapes of graph.
+//! Tasks, their records, their texts, and some shapes of graph.
 
 /// A node's execution, 0 for a join, and its parents, ascending.
 #[derive(Clone, Debug, PartialEq)]
@@ -33,6 +33,28 @@ impl Task {
         encoded(&self.numbers())
     }
 
+    /// The numbers of its Standard Task Graph text, line by line. Its first node
+    /// and its last stand for the dummies, so it has at least two.
+    fn lines(&self) -> Vec<Vec<u64>> {
+        let mut lines = vec![vec![self.nodes.len() as u64 - 2]];
+        for (node, number) in self.nodes.iter().zip(0..) {
+            let mut line = vec![number, node.execution, node.parents.len() as u64];
+            line.extend(&node.parents);
+            lines.push(line);
+        }
+        lines
+    }
+
+    /// That text, each number in so many digits, or as many as it takes.
+    pub fn text(&self, digits: usize) -> Vec<u8> {
+        let word = |number: &u64| format!("{number:0digits$}");
+        let line = |line: Vec<u64>| line.iter().map(word).collect::<Vec<_>>().join(" ") + "\n";
+        self.lines()
+            .into_iter()
+            .flat_map(|numbers| line(numbers).into_bytes())
+            .collect()
+    }
+
     /// For each node its execution, and its parents as a set, node k as bit k.
     pub fn lists(&self) -> (Vec<u64>, Vec<u64>) {
         let set = |node: &Node| node.parents.iter().fold(0, |set, parent| set | 1 << parent);
@@ -63,6 +85,16 @@ impl Task {
         }
         let numbers = task.numbers().into_iter();
         numbers.flat_map(|number| stretched(number, 4)).collect()
+    }
+
+    /// A long text, and the longest record is written of it: its words have five
+    /// digits each, and its lists are backward.
+    pub fn longest_text() -> Vec<u8> {
+        let mut task = Task::longest();
+        task.nodes
+            .iter_mut()
+            .for_each(|node| node.parents.reverse());
+        task.text(5)
     }
 
     /// The task in edition 2; every other node from that one on is a join.

@@ -1,5 +1,5 @@
 //! Document 01, as the requests of document 02 change it, in plain Rust: the
-//! eight public calls and the printed sheet.
+//! nine public calls and the printed sheets.
 //!
 //! Written from the documents alone, but for which loop is shown (the choice
 //! is docs/PROTOCOL.md's), so that an answer of the proved library can be held
@@ -8,6 +8,7 @@
 #![forbid(unsafe_code)]
 
 mod board;
+mod graph;
 mod mend;
 mod plan;
 mod record;
@@ -18,6 +19,7 @@ mod sheet;
 mod timing;
 mod write;
 
+pub use graph::graph_sheet;
 pub use mend::Mending;
 pub use plan::PLAN_WORDS;
 pub use record::Table;
@@ -122,10 +124,21 @@ pub fn mend(given: &[u8], bytes: &mut [u8]) -> Mending {
     mended(given, bytes).unwrap_or_else(Mending::refused)
 }
 
+/// Reads a Standard Task Graph text and writes its record, of edition 2 with
+/// that id and period, into the lent bytes. The value is the number of bytes.
+pub fn read_graph(text: &[u8], bytes: &mut [u8], id: u64, period: u64) -> Answer {
+    graph::written(text, bytes, id, period).into()
+}
+
 /// What the calls read a record as, or their answer where it is refused. It is
 /// none of the calls: what is written can be held against it.
 pub fn read(record: &[u8]) -> Result<Table, Answer> {
     Table::read(record).map_err(|refusal| Err(refusal).into())
+}
+
+/// The same for a text, which the lent bytes are no part of.
+pub fn read_text(text: &[u8], id: u64, period: u64) -> Result<Table, Answer> {
+    graph::read(text, id, period).map_err(|refusal| Err(refusal).into())
 }
 
 fn planned(record: &[u8], words: &mut [u64], cost: u64) -> Result<u64, Refusal> {

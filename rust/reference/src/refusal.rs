@@ -24,6 +24,8 @@ pub enum Rule {
     Lengths = 19,
     WouldBeNo = 20,
     NothingRuns = 21,
+    Layout = 22,
+    TaskCount = 23,
     Cost = 26,
 }
 

@@ -1,4 +1,4 @@
-//! The text the printing program gives for a record.
+//! A table's sheet, and the text the printing program gives for a record.
 
 use std::fmt::Write;
 
@@ -14,18 +14,23 @@ const INPUT_LIMIT: usize = 8_192;
 /// What `plansheet` prints with this on its standard input, at cost 0.
 pub fn sheet(input: &[u8]) -> Vec<u8> {
     let record = &input[..input.len().min(INPUT_LIMIT)];
-    let text = match lines(record) {
+    printed(Table::read(record).and_then(|table| sheet_of(&table)))
+}
+
+/// A refusal is one line.
+pub fn printed(sheet: Result<String, Refusal>) -> Vec<u8> {
+    let text = match sheet {
         Ok(text) => text,
         Err(refusal) => format!("refused {} at {}\n", refusal.number(), refusal.place()),
     };
     text.into_bytes()
 }
 
-fn lines(record: &[u8]) -> Result<String, Refusal> {
-    let table = Table::read(record)?;
-    let timing = Timing::of(&table)?;
+/// Refusals 10 and 11.
+pub fn sheet_of(table: &Table) -> Result<String, Refusal> {
+    let timing = Timing::of(table)?;
     let mut words = [0; PLAN_WORDS];
-    let written = write_plan(&table, &timing, &mut words);
+    let written = write_plan(table, &timing, &mut words);
     let mut text = format!(
         "task {} period {} work {} path {} over {}\n",
         table.id, table.period, timing.work, timing.path, words[0]

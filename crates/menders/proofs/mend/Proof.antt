@@ -1,12 +1,10 @@
--- `menders::mend` meets its contract: the draft is the definition's, and the writer is called with the lists of its table.
+-- `menders::mend` meets its contract: the draft is the definition's, and the writer is handed its table.
 use mathlib.Core.Path.{_≡_, sym, ap, ap₂, _∙_}
-use lib.Seq.{length-take-le}
 use denote.Ref.{now}
 use borrow.Author.Needs.{needs}
 use borrow.Author.Tests.{ne-eqb, eq-eqb}
 use Rattle.refusals.specs.declared.Answer.{Answer}
 use Rattle.refusals.specs.Answer.{answerOf}
-use Rattle.records.proofs.Answers.{Filling}
 use Rattle.menders.specs.declared.Counts.{Counts}
 use Rattle.menders.specs.declared.Draft.{Draft}
 use Rattle.menders.specs.Mending.{mendCall, counted}
@@ -36,30 +34,15 @@ returns c =
     (ap₂ (λ (x : Answer) (n : Counts). record { after = record { answer = x; lent = now (a .bytes) }; counts = n }) (c .before .answer-of .ensures ∙ ap answerOf e) (c .none .ensures)
     ∙ sym (call-refused (now (a .given)) (now (a .bytes)) _ (ap (λ (x : Draft). x .outcome) (sym (d .read-draft .ensures)) ∙ e)))
 
--- the draft's table has room for its nodes
-filled : (c : tie.After-enum-told) → (let t = c .before .before .read-draft .result .table in Filling (t .count) t)
-filled c = let d = c .before .before in filling _ (now (d .before .before .before .args .bytes)) (d .read-draft .result) (d .read-draft .ensures) (c .enum-told .given .1)
-
-array-share-prefix-executions : tie.Need-array-share-prefix-executions
-array-share-prefix-executions c = let f = filled (c .before .before .before) in rw (f .executions .size) (f .size .1)
-
-slice-aggregate-write-record : tie.Need-slice-aggregate-write-record
-slice-aggregate-write-record c = sym (length-take-le _ _ (array-share-prefix-executions (c .before)))
-
-array-share-prefix-parents : tie.Need-array-share-prefix-parents
-array-share-prefix-parents c = let f = filled (c .before .before .before .before) in rw (f .sets .size) (f .size .1)
-
-slice-aggregate-write-record-2 : tie.Need-slice-aggregate-write-record-2
-slice-aggregate-write-record-2 c = sym (length-take-le _ _ (array-share-prefix-parents (c .before)))
-
-write-record-requires : tie.Need-write-record-requires
-write-record-requires c κs = search needs
+write-table-requires : tie.Need-write-table-requires
+write-table-requires c κs = let d = c .before .before .before in
+    filling _ (now (d .before .before .before .args .bytes)) (d .read-draft .result) (d .read-draft .ensures) (c .before .enum-told .given .1) .size .1
 
 -- what the writer leaves
-put : (c : tie.After-write-record) → (let d = c .before .before .before .before .before .before .before .before .before in let a = d .before .before .before .args in
-    mendCall (now (a .given)) (now (a .bytes)) ≡ counted (d .read-draft .result .counts) (record { answer = c .write-record .result; lent = c .write-record .last .1 .1 .0 }))
-put c = let e = c .before .before .before .before .before .before .before in let d = e .before .before in
-    call-put _ _ (d .read-draft .result) (d .read-draft .ensures) (e .enum-told .given .1) _ (c .write-record .ensures)
+put : (c : tie.After-write-table) → (let d = c .before .before .before .before in let a = d .before .before .before .args in
+    mendCall (now (a .given)) (now (a .bytes)) ≡ counted (d .read-draft .result .counts) (record { answer = c .write-table .result; lent = c .write-table .last .1 .0 }))
+put c = let e = c .before .before in let d = e .before .before in
+    call-put _ _ (d .read-draft .result) (d .read-draft .ensures) (e .enum-told .given .1) _ (c .write-table .ensures)
 
 none-requires-2 : tie.Need-none-requires-2
 none-requires-2 c κs = search needs
@@ -70,7 +53,7 @@ same-length c = search needs
 returns-2 : tie.Need-returns-2
 returns-2 c = let w = c .before .before .before .before .before in
     call-inside _ _
-    (ap (λ (n : Counts). record { after = record { answer = w .write-record .result; lent = w .write-record .last .1 .1 .0 }; counts = n }) (c .none2 .ensures)
+    (ap (λ (n : Counts). record { after = record { answer = w .write-table .result; lent = w .write-table .last .1 .0 }; counts = n }) (c .none2 .ensures)
     ∙ sym (put w ∙ counted-none _ _ (ne-eqb _ _ (c .before .if1 .taken))))
 
 same-length-2 : tie.Need-same-length-2
@@ -89,11 +72,7 @@ mend-spec =
     answer-of-requires
     none-requires
     returns
-    array-share-prefix-executions
-    slice-aggregate-write-record
-    array-share-prefix-parents
-    slice-aggregate-write-record-2
-    write-record-requires
+    write-table-requires
     none-requires-2
     same-length
     returns-2

@@ -1,0 +1,6 @@
+pub mod Expected
+pub mod Graph
+pub mod Met
+pub mod Alike
+pub mod Record
+pub mod Inner

@@ -1,0 +1,4 @@
+pub mod Capped
+pub mod Words
+pub mod Standing
+pub mod Along
