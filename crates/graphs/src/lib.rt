@@ -123,6 +123,13 @@ fn take_set(text: &[u8], from: usize, n: u64) -> Taken
     take_predecessors(text, end, value, n)
 }
 
+// A refusal in place of a task.
+fn no_task(step: Taken) -> Task
+    ensures { λ r. ⌜ r ≡ record { time = 0; set = step } ⌝ }
+{
+    Task { time: 0, set: step }
+}
+
 // The words of task i: its number, its time, and its predecessors, each below n.
 fn take_task(text: &[u8], from: usize, i: u64, n: u64) -> Task
     requires { ⌜ (i < n) × (n ≤ countMax) × (from ≤ length (now text)) ⌝ }
@@ -136,10 +143,7 @@ fn take_task(text: &[u8], from: usize, i: u64, n: u64) -> Task
         end: time_from,
     } = first
     else {
-        return Task {
-            time: 0,
-            set: first,
-        };
+        return no_task(first);
     };
     let longest = TaskTable::EXECUTION_MAX;
     let second = take_number(text, time_from, Refusal::BAD_EXECUTION, 0, longest);
@@ -149,10 +153,7 @@ fn take_task(text: &[u8], from: usize, i: u64, n: u64) -> Task
         end: set_from,
     } = second
     else {
-        return Task {
-            time: 0,
-            set: second,
-        };
+        return no_task(second);
     };
     let set = take_set(text, set_from, n);
     Task { time, set }

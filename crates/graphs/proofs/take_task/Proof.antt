@@ -19,8 +19,11 @@ enum-known-first c = search needs
 enum-told : tie.Need-enum-told
 enum-told c = search needs
 
+no-task-requires : tie.Need-no-task-requires
+no-task-requires c κs = search needs
+
 returns : tie.Need-returns
-returns c = let m = c .before .before in let r = m .before .before .pre in let e = c .enum-told .given .1 in (
+returns c = let m = c .before .before .before in let r = m .before .before .pre in let e = c .before .enum-told .given .1 in rw (c .no-task .ensures) (
   λ t same. step-out _ (number t _) (omega arith) (omega arith) _ _ (m .take-number .ensures) _ e ∙ sym (then-refused _ _ _ _ e),
   out-within _ _ _ e,
 )
@@ -39,8 +42,11 @@ enum-known-second c = search needs
 enum-told-2 : tie.Need-enum-told-2
 enum-told-2 c = search needs
 
+no-task-requires-2 : tie.Need-no-task-requires-2
+no-task-requires-2 c κs = search needs
+
 returns-2 : tie.Need-returns-2
-returns-2 c = let m = c .before .before in let f = m .before .before in let e = c .enum-told2 .given .1 in (
+returns-2 c = let m = c .before .before .before in let f = m .before .before in let e = c .before .enum-told2 .given .1 in rw (c .no-task2 .ensures) (
   λ t same. numbered f t .goes ∙ step-out _ (time t _) (omega arith) (omega arith) _ _ (m .take-number2 .ensures) _ e ∙ sym (then-refused _ _ _ _ e),
   out-within _ _ _ e,
 )
@@ -66,10 +72,12 @@ take-task-spec =
     take-number-requires
     enum-known-first
     enum-told
+    no-task-requires
     returns
     take-number-requires-2
     enum-known-second
     enum-told-2
+    no-task-requires-2
     returns-2
     take-set-requires
     returns-3)
