@@ -1,10 +1,10 @@
-/* The planner's nine calls. A call returns for every content of what it is lent; a refusal changes nothing. The caller
+/* The planner's ten calls. A call returns for every content of what it is lent; a refusal changes nothing. The caller
  * sees to the memory, in each call:
- *   - A length is 64 bits on every machine. It counts bytes of a record or a text, words of a plan, rows of a board,
- *     entries of a list.
+ *   - A length is 64 bits on every machine. It counts bytes of a record, a text or a file, words of a plan, rows of a
+ *     board, entries of a list.
  *   - Each pointer is not NULL and valid for its length.
  *   - The words, the rows, the lists and the memory that the answer is returned in are aligned to 8 bytes. Compilers for
- *     32-bit x86 align uint64_t to 4 unless told otherwise (gcc and clang: -malign-double). A record or a text
+ *     32-bit x86 align uint64_t to 4 unless told otherwise (gcc and clang: -malign-double). A record, a text or a file
  *     may begin at any byte, and so may the bytes for a record.
  *   - Nothing that is lent overlaps: record, words and board are apart, so are the two lists and the bytes, so are the
  *     given record or the text and the bytes, and the returned answer is apart from them.
@@ -27,11 +27,17 @@
 /* The rows of a board; a board of another length is refused by 17. */
 #define PLANNER_ROWS 16
 
+/* The most bytes that a building's file may have; a longer one is refused by 27. */
+#define PLANNER_FILE_BYTES 1048576
+
+/* The refusal numbers are below this. */
+#define PLANNER_NUMBERS 29
+
 /* What a call answers. refusal 0: accepted, and value holds what the call returns. Otherwise refusal is the number of
- * the rule that was broken, value 0, and place where it was met: a byte of the record (for 1 the record's length) or of
- * the text (for 22 also the text's length; for 4 and 5, which are none of the text's numbers, 0), for 10 the smallest
- * node that waits for itself, for 19 the length of the bytes (0 where two lists differ), and 0 for 11 to 17, 20, 21 and
- * 26. ring (since version 2) is for 10 the set of nodes of one loop through that node, node k as bit k, from which none
+ * the rule that was broken, value 0, and place where it was met: a byte of the record (for 1 the record's length), of
+ * the text (for 22 also the text's length; for 4 and 5, which are none of the text's numbers, 0) or of the file, for 10
+ * the smallest node that waits for itself, for 19 the length of the bytes (0 where two lists differ), and 0 for 11 to 17,
+ * 20, 21, 26 and 27. ring (since version 2) is for 10 the set of nodes of one loop through that node, node k as bit k, from which none
  * can be left out; with every other answer it is 0.
  * Refusals: 1 the record ends too early; 2 a number's fourth byte has its top bit set; 3 the edition is neither 1 nor
  * 2; 4 id, 5 period, 6 node count, 7 execution (from 1 in edition 1, from 0 in edition 2) out of range; 8 a parent
@@ -39,7 +45,8 @@
  * itself, over others or not; 11 the path is longer than the period; 12 the id stands already; 13 no row is free; 14 no
  * task with this id stands; 15 no such number of cores; 16 too few words; 17 the board isn't sound; 18 a number isn't in
  * its shortest form; 19 two lists differ in length, or too few bytes; 20 with the task the verdict would be no; 21 all
- * executions are 0; 22 the text breaks the layout; 23 the text's count is above 62; 26 the cost is above 255. */
+ * executions are 0; 22 the text breaks the layout; 23 the text's count is above 62; 26 the cost is above 255; 27 the file
+ * is too long. */
 struct planner_answer {
     uint64_t refusal;
     uint64_t place;
@@ -70,6 +77,24 @@ struct planner_mending {
     uint64_t padded;
     uint64_t reordered;
     uint64_t dropped;
+};
+
+/* What planner_building answers: an answer, and what was counted of the file's records before the walk ended; on 26 and
+ * 27 all counts are 0. records: how many there are; accepted: how many of them are planned; refused[k]: how many of them
+ * planning refuses by k (1 to 11, 18 and 21 occur). The others count accepted records alone. nodes: their nodes, those
+ * with execution 0 too; segments, and of these heavy and light; work: their executions, with the cost; dense: tasks with
+ * a node whose density is above 1,000,000. */
+struct planner_counts {
+    struct planner_answer answer;
+    uint64_t records;
+    uint64_t accepted;
+    uint64_t refused[PLANNER_NUMBERS];
+    uint64_t nodes;
+    uint64_t segments;
+    uint64_t work;
+    uint64_t heavy;
+    uint64_t light;
+    uint64_t dense;
 };
 
 /* Plans the task of a record into words[0 .. 3 + 3s + 3n - 1]; words past these keep their content.
@@ -152,5 +177,14 @@ struct planner_mending planner_mend(const uint8_t *given, uint64_t given_length,
 struct planner_answer planner_read_graph(const uint8_t *text, uint64_t text_length,
                                          uint8_t *bytes, uint64_t bytes_length,
                                          uint64_t id, uint64_t period);
+
+/* Counts what a whole building's file holds. A file is records one after another, each preceded by its length in bytes
+ * as a number like a record's (1 to 4 bytes, shortest form). Each record is planned alone, as planner_plan does at that
+ * cost, in words of the call's own: ids are not compared. A length of 0 is a record of no bytes, which is refused by 1.
+ * The walk ends at a length that is damaged and at a record that runs past the file's end; that record is not counted.
+ * value: the number of records. Refusals, in this order: 26; 27; then what ended the walk: 1, 2 or 18 at the first byte
+ * of the length (1 where the file ends inside it), or 1 at file_length (the record runs past it). Beside 1, 2 and 18 the
+ * counts cover the records before that place. */
+struct planner_counts planner_building(const uint8_t *file, uint64_t file_length, uint64_t cost);
 
 #endif

@@ -10,6 +10,7 @@ pub mod Ask
 pub mod Write
 pub mod Mend
 pub mod Graph
+pub mod Building
 pub mod Admit
 pub mod Diagram
 pub mod Print

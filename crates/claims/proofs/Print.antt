@@ -47,6 +47,8 @@ use Rattle.sheets.specs.Printed.{headOf, tableSheet, sheetCost, sheetOf, printe
 use Rattle.sheets.proofs.Sizes.{sheet-fits, refusal-fits}
 use Rattle.mendlines.proofs.Lines.{line-counts, line-refusal, line-fits}
 use Rattle.graphsheets.specs.Sheet.{textMax, graphIn, cutOff, relaxed, graphSheet}
+use Rattle.buildingsheets.specs.Sheet.{buildingIn}
+use Rattle.buildingsheets.proofs.Lines.{text-whole, text-ended, building-fits}
 use Rattle.graphsheets.proofs.Relaxed.{ready, path-low, path-high}
 use Rattle.graphsheets.proofs.Sheets.{sheet-cut, whole-short, whole-commented, sheet-refused, sheet-read, read-range}
 use Rattle.claims.specs.Rule.{IsAccepted}
@@ -187,4 +189,8 @@ of-printing = record {
   graph-front = λ text l e. graph-front text e;
   graph-cut = sheet-cut;
   graph-fits = graph-fits;
+  building-sheet = λ file. refl;
+  building-whole = text-whole;
+  building-ended = text-ended;
+  building-fits = λ file. building-fits (buildingIn file);
 }

@@ -9,6 +9,7 @@ use Rattle.claims.proofs.Ask.{of-asking, of-asking-to-end}
 use Rattle.claims.proofs.Write.{of-writing}
 use Rattle.claims.proofs.Mend.{of-mending}
 use Rattle.claims.proofs.Graph.{of-graphs}
+use Rattle.claims.proofs.Building.{of-buildings}
 use Rattle.claims.proofs.Print.{of-printing}
 use Rattle.claims.proofs.Diagram.{tables-timed}
 use Rattle.claims.proofs.Cost.{of-cost}
@@ -30,6 +31,7 @@ promises = record {
   writing = of-writing;
   mending = of-mending;
   graphing = of-graphs;
+  building = of-buildings;
   printing = of-printing;
   tables-timed = tables-timed;
   cost = of-cost;

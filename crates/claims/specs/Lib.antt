@@ -9,6 +9,7 @@ pub mod Ask
 pub mod Write
 pub mod Mend
 pub mod Graph
+pub mod Building
 pub mod ToEnd
 pub mod Admit
 pub mod Print

@@ -1,7 +1,7 @@
--- All that is promised of what `plansheet` and `graphsheet` print, and of the line that `mend` prints on standard error.
+-- All that is promised of what `plansheet`, `graphsheet` and `buildingsheet` print, and of the line that `mend` prints on standard error.
 use mathlib.Core.Path.{_≡_}
 use mathlib.Core.Bool.{true, false}
-use mathlib.Core.List.{List, _++_}
+use mathlib.Core.List.{List, [], _∷_, _++_}
 use Prim.Native.Nat.{ℕ, _≤_, _<_}
 use lib.ListN.{length, take, drop}
 use Rattle.refusals.specs.declared.Refusal.{Refusal}
@@ -14,12 +14,17 @@ use Rattle.graphs.specs.Graph.{graphOf}
 use Rattle.ways.specs.Reaches.{Loops}
 use Rattle.rings.specs.Round.{Smallest}
 use Rattle.plans.specs.Calls.{taskOf, planCall}
+use Rattle.texts.specs.Text.{bytes as letters}
+use Rattle.texts.specs.Lines.{line}
 use Rattle.sheets.specs.Lines.{refusedLine}
 use Rattle.sheets.specs.Sheet.{sheetMax}
 use Rattle.sheets.specs.Printed.{tableSheet, sheetOf, printed}
 use Rattle.menders.specs.declared.Mending.{Mending}
 use Rattle.mendlines.specs.Line.{countsLine, mendLine}
 use Rattle.graphsheets.specs.Sheet.{relaxed, graphSheet}
+use Rattle.buildings.specs.declared.Building.{Building}
+use Rattle.buildings.specs.Building.{buildingCall}
+use Rattle.buildingsheets.specs.Sheet.{countsText, buildingText, buildingSheet}
 use Rattle.claims.specs.Rule.{IsAccepted, IsRefused}
 
 -- a text as graphsheet reads it, with id 1 and the largest period
@@ -59,3 +64,10 @@ pub record OfPrinting : Type 0 where
   pub graph-cut : (text : List ℕ) → 65536 < length text → sheetGraph (take 65536 text) .commented ≡ false → graphSheet text ≡ refusedLine (told 22 65536)
   -- it fits the buffer, too
   pub graph-fits : (text : List ℕ) → length (graphSheet text) ≤ sheetMax
+  -- buildingsheet: the counts, and a last line where the walk ended early, of a file's first 65,536 bytes
+  pub building-sheet : (file : List ℕ) → buildingSheet file ≡ buildingText (buildingCall (take 65536 file) 0)
+  pub building-whole : (b : Building) → IsAccepted (b .answer) → buildingText b ≡ countsText (b .counts)
+  pub building-ended : (b : Building) → IsRefused (b .answer) →
+      buildingText b ≡ countsText (b .counts) ++ line ((letters "ended ", b .answer .refusal) ∷ (letters "at ", b .answer .place) ∷ [])
+  -- it fits the buffer, too
+  pub building-fits : (file : List ℕ) → length (buildingSheet file) ≤ sheetMax

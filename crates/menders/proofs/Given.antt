@@ -12,7 +12,9 @@ use lib.ListN.{length, drop, length-drop}
 use lib.Dec.{ltb}
 use borrow.Author.Tests.{ltb-true, ltb-false}
 use Rattle.plain.specs.Pick.{pick}
+use Rattle.plain.specs.Sums.{total}
 use Rattle.plain.proofs.Lists.{lt-or-ge}
+use Rattle.plain.proofs.Sums.{total-behind}
 use Rattle.refusals.specs.declared.Refusal.{Refusal}
 use Rattle.refusals.specs.Refusal.{refusal}
 use Rattle.refusals.specs.declared.Outcome.the-variants as outcome
@@ -35,7 +37,7 @@ use Rattle.listings.specs.Lists.{listSet, reordered, dropped}
 use Rattle.menders.specs.Taken.{thenTaken, takenOf, anyForm, taken}
 use Rattle.menders.specs.Listed.{noList, listed, parentList}
 use Rattle.menders.specs.Draft.{drawn, undrawn, noMore, nodesTaken, draftOf}
-use Rattle.menders.specs.Given.{Due, range, Next, nodeFrom, parentFrom, after, Number, Meets, Refuses, Gives, total, countsOf}
+use Rattle.menders.specs.Given.{Due, range, Next, nodeFrom, parentFrom, after, Number, Meets, Refuses, Gives, countsOf}
 use Rattle.menders.specs.Given.Due.{edition, id, period, count, execution, parentCount, parent}
 use Rattle.menders.specs.Given.Next.{number, nothing}
 use Rattle.menders.specs.Given.Number.{as-shortest, as-padded}
@@ -49,12 +51,6 @@ then-same : {A : Type 0} (out : Refusal → A) (step : Taken) (more instead : �
 unfolding thenTaken
 then-same out (Read v next) more instead e = e v next
 then-same out (Refused r) more instead e = refl
-
--- a list more, added up
-pub total-behind : (f : List ℕ → ℕ) (lists : List (List ℕ)) (given : List ℕ) → total f (lists ++ given ∷ []) ≡ total f lists + f given
-unfolding total
-total-behind f [] given = omega arith
-total-behind f (l ∷ lists) given = omega (arith, total-behind f lists given)
 
 -- what a draft still does from a spot on: from the node count, from the period, from the id, after a node's parents
 fromCount : ℕ → ℕ → ℕ → List ℕ → Spot → Draft

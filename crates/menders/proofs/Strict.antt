@@ -7,6 +7,8 @@ use native.Mathlib.Omega.{arith}
 use lib.ListN.{drop}
 use lib.Dec.{ltb}
 use Rattle.plain.specs.Pick.{pick}
+use Rattle.plain.specs.Sums.{total}
+use Rattle.plain.proofs.Sums.{total-behind}
 use Rattle.tables.specs.declared.TaskTable.{TaskTable}
 use Rattle.tables.specs.Limits.{countMax}
 use Rattle.numbers.specs.Number.{recordMore}
@@ -18,7 +20,7 @@ use Rattle.records.proofs.Answers as answers
 use Rattle.listings.specs.declared.Listing.{Listing}
 use Rattle.listings.specs.Lists.{listSet, ascends, reordered, dropped}
 use Rattle.menders.specs.Draft.{noCounts, drawn, draftOf}
-use Rattle.menders.specs.Given.{Due, range, Next, nodeFrom, after, Meets, total}
+use Rattle.menders.specs.Given.{Due, range, Next, nodeFrom, after, Meets}
 use Rattle.menders.specs.Given.Due.{edition, id, period, count, execution, parentCount, parent}
 use Rattle.menders.specs.Given.Next.{number, nothing}
 use Rattle.menders.specs.Given.Number.{as-shortest}
@@ -26,7 +28,7 @@ use Rattle.menders.specs.Given.Meets.{begin, on}
 use Rattle.listings.specs.Inner.Listing.{past}
 use Rattle.listings.proofs.Lists.{met-none, past-behind}
 use Rattle.listings.proofs.Ascending.{ascends-tidy, ascends-more, set-more}
-use Rattle.menders.proofs.Given.{total-behind, given-drawn}
+use Rattle.menders.proofs.Given.{given-drawn}
 
 -- lists with nothing to mend
 Tidy : List (List ℕ) → Type 0

@@ -5,6 +5,7 @@ use mathlib.Core.List.{List, [], _∷_, _++_}
 use lib.ListN.{length, drop, getD}
 use lib.Dec.{ltb}
 use Rattle.plain.specs.Pick.{pick}
+use Rattle.plain.specs.Sums.{total}
 use Rattle.refusals.specs.Numbers.{ended, tooLong, badParent, bytesFollow}
 use Rattle.tables.specs.declared.TaskTable.{TaskTable}
 use Rattle.numbers.specs.Number.{recordMore}
@@ -86,11 +87,6 @@ Gives bytes t padded lists = Meets bytes (length bytes) padded (nothing t lists)
 -- the list of node i
 abbrev pub listAt : List (List ℕ) → (i : ℕ) → List ℕ
 listAt lists i = getD lists i []
-
--- f of every list, added up
-unfoldable pub total : (List ℕ → ℕ) → List (List ℕ) → ℕ
-total f [] = 0
-total f (given ∷ lists) = f given + total f lists
 
 -- "three counts over the given record"
 abbrev pub countsOf : (padded : ℕ) (lists : List (List ℕ)) → Counts

@@ -8,6 +8,8 @@ use Rattle.plans.specs.Calls.{planCall}
 use Rattle.writers.specs.Writing.{writeCall}
 use Rattle.menders.specs.Mending.{Mended, mendCall}
 use Rattle.graphs.specs.Record.{graphCall}
+use Rattle.buildings.specs.declared.Building.{Building}
+use Rattle.buildings.specs.Building.{buildingCall}
 use Rattle.planner.specs.Calls.{Lent, noteCall, admitCall, withdrawCall, askCall, askToEndCall}
 
 -- planning: its answer, and the words after it
@@ -45,3 +47,7 @@ MendAllows given bytes mended = mended ≡ mendCall given bytes
 -- reading a graph: its answer, and the bytes after it
 abbrev pub GraphAllows : (text bytes : List ℕ) (id period : ℕ) → After (List ℕ) → Type 0
 GraphAllows text bytes id period after = after ≡ graphCall text bytes id period
+
+-- walking a building's file: its answer, and the counts; the file is lent to be read
+abbrev pub BuildingAllows : (file : List ℕ) (cost : ℕ) → Building → Type 0
+BuildingAllows file cost building = building ≡ buildingCall file cost

@@ -3,6 +3,7 @@ use boards::Board;
 use boards::Change;
 use boards::ROWS;
 use boards::Row;
+use buildings::Building;
 use menders::Mending;
 use refusals::Answer;
 ghost use mathlib.Core.Path.{_≡_};
@@ -10,7 +11,7 @@ ghost use Prim.Native.Nat.{_<_};
 ghost use lib.ListN.{length};
 ghost use Rattle.boards.specs.Row.{rowsMax};
 ghost use Rattle.boards.specs.Change.{changed};
-ghost use Rattle.planner.specs.Allows.{PlanAllows, NoteAllows, AdmitAllows, WithdrawAllows, AskAllows, AskToEndAllows, WriteAllows, MendAllows, GraphAllows};
+ghost use Rattle.planner.specs.Allows.{PlanAllows, NoteAllows, AdmitAllows, WithdrawAllows, AskAllows, AskToEndAllows, WriteAllows, MendAllows, GraphAllows, BuildingAllows};
 
 // The lent rows, by value.
 fn rows_of(board: &[Row]) -> Board
@@ -142,4 +143,12 @@ pub extern "C" fn planner_read_graph(text: &[u8], bytes: &mut [u8], id: u64, per
     ensures { λ r. ⌜ GraphAllows (now (text .entry)) (now (bytes .entry)) id period (record { answer = r; lent = now (bytes .exit) }) ⌝ }
 {
     graphs::write_graph(text, bytes, id, period)
+}
+
+// Walks a whole building's file and plans each of its records alone, with the cost; the value is the number of records, and the counts stand beside the answer.
+#[no_mangle]
+pub extern "C" fn planner_building(file: &[u8], cost: u64) -> Building
+    ensures { λ r. ⌜ BuildingAllows (now (file .entry)) cost r ⌝ }
+{
+    buildings::count_building(file, cost)
 }

@@ -22,8 +22,20 @@ use Rattle.shares.proofs.Deals.{deal-same, segmented-same}
 use Rattle.plans.specs.Diagram.{start, finish, work, path, segmentCount, threadsIn, lengthIn}
 use Rattle.plans.specs.Shares.{dealOf}
 use Rattle.plans.specs.Words.{wordsMax}
+use Rattle.plans.specs.Inner.Planned.{Planned}
 use Rattle.plans.specs.Inner.Drawn.{SegmentsOf}
 use Rattle.plans.proofs.Table.{path-latest, cutting}
+
+-- words with a table's threads and lengths in them hold what the deal asks
+pub holds-deal : {t : TaskTable} {w : List ℕ} → Planned t → ((j : ℕ) → j < segmentCount t → threadsAt w j ≡ threadsIn t j) → ((j : ℕ) → j < segmentCount t → lengthAt w j ≡ lengthIn t j) →
+    wordsMax ≤ length w → DealIn w (segmentCount t) (t .period) (work t) (path t)
+holds-deal {t} {w} ok first second l = record {
+  room = let a = segments-le (t .count) (finish t) in let b = ok .range .count-high in omega arith;
+  segmented = segmented-same (threadsAt w) (lengthAt w) (λ j h. sym (first j h)) (λ j h. sym (second j h)) (cutting ok);
+  period = ok .range .period-high;
+  work = work-le (t .execution) (t .count) _ (ok .range .run-high) (ok .range .count-high);
+  threads = λ j h. rw (first j h) (threads-word (t .count) (start t) (finish t) j);
+}
 
 module _ {t : TaskTable} {n T C s P : ℕ} {m en e : List ℕ} (d : SegmentsOf t n T C s P m en e) where
   -- the path is the table's
@@ -67,10 +79,4 @@ module _ {t : TaskTable} {n T C s P : ℕ} {m en e : List ℕ} (d : SegmentsOf t
 
     -- what the deal asks
     pub deal-in : wordsMax ≤ length w → DealIn w s T C P
-    deal-in l = let ok = d .table in rw (d .cut-up .count, d .period, d .work, path-so) (record {
-      room = let a = segments-le (t .count) (finish t) in let b = ok .range .count-high in omega arith;
-      segmented = segmented-same (threadsAt w) (lengthAt w) (λ j h. sym (c .first j h)) (λ j h. sym (c .second j h)) (cutting ok);
-      period = ok .range .period-high;
-      work = work-le (t .execution) (t .count) _ (ok .range .run-high) (ok .range .count-high);
-      threads = λ j h. rw (c .first j h) (threads-word (t .count) (start t) (finish t) j);
-    })
+    deal-in l = rw (d .cut-up .count, d .period, d .work, path-so) (holds-deal (d .table) (c .first) (c .second) l)

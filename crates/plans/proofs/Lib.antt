@@ -5,7 +5,7 @@ pub mod Light
 pub mod Tests
 pub mod Cases
 pub mod Front
-mod Drawn
+pub mod Drawn
 mod Nodes
 pub mod Read
 pub mod Figures

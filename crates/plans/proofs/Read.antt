@@ -1,6 +1,6 @@
 -- A written plan is read back word by word: its parts stand one behind the other, each as long as its triples say.
 use mathlib.Core.Path.{_≡_, refl, ap, _∙_}
-use mathlib.Core.List.{List, _++_}
+use mathlib.Core.List.{List, [], _∷_, _++_, append-assoc}
 use Prim.Native.Nat.{ℕ, _+_, _-_, _*_, _≤_, _<_}
 use native.Mathlib.Omega.{arith}
 use lib.ListN.{length, drop, length-append, length-drop, List·getD-append}
@@ -8,9 +8,10 @@ use lib.Seq.{getD-append-add}
 use Rattle.plain.specs.At.{at}
 use Rattle.tables.specs.declared.TaskTable.{TaskTable}
 use Rattle.segments.proofs.Segments.{segments-le}
-use Rattle.shares.proofs.Triples.{length-triples, second-of, third-of}
-use Rattle.plans.specs.Diagram.{finish, segmentCount}
-use Rattle.plans.specs.Shares.{over, deadline, offset, density}
+use Rattle.shares.proofs.Holding.{HoldsSegments}
+use Rattle.shares.proofs.Triples.{length-triples, second-of, third-of, triples-hold}
+use Rattle.plans.specs.Diagram.{finish, segmentCount, threadsIn, lengthIn}
+use Rattle.plans.specs.Shares.{over, numeratorOf, deadline, offset, density}
 use Rattle.plans.specs.Words.{wordCount, wordsMax, frontWords, nodeWords, written}
 use Rattle.plans.specs.Inner.Planned.{Planned}
 use Rattle.plans.proofs.Front.{length-front}
@@ -28,6 +29,13 @@ module _ (t : TaskTable) (words : List ℕ) where
   pub at-nodes : at (written t words) 2 ≡ t .count
   unfolding frontWords
   at-nodes = refl
+
+  -- the segments
+  pub segments-held : HoldsSegments (written t words) (segmentCount t) (threadsIn t) (lengthIn t) (numeratorOf t)
+  unfolding frontWords
+  segments-held =
+      rw (append-assoc (frontWords t) (nodeWords t) (drop (wordCount (segmentCount t) (t .count)) words))
+      (triples-hold (threadsIn t) (lengthIn t) (numeratorOf t) (segmentCount t) (over t ∷ segmentCount t ∷ t .count ∷ []) _ refl)
 
   length-nodes : length (nodeWords t) ≡ 3 * t .count
   unfolding nodeWords

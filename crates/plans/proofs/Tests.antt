@@ -13,7 +13,7 @@ use Rattle.refusals.specs.declared.Refusal.{Refusal}
 use Rattle.refusals.specs.declared.Answer.{Answer}
 use Rattle.refusals.specs.declared.Outcome.{Outcome}
 use Rattle.refusals.specs.declared.Outcome.the-variants.{Accepted, Refused}
-use Rattle.refusals.specs.Refusal.{refusal}
+use Rattle.refusals.specs.Refusal.{refusal, refusalOf}
 use Rattle.tables.specs.declared.TaskTable.{TaskTable}
 use Rattle.tables.specs.Limits.{costMax}
 use Rattle.records.specs.Reading.{readingOf}
@@ -64,6 +64,15 @@ module _ {A : Type 0} (refuse : Refusal → A) (go : TaskTable → A) (t : TaskT
       by true c e = absurd (not-both refl e)
       by false true e = absurd (not-both refl e)
       by false false e = refl
+
+-- a table whose planning is refused goes by that refusal
+pub table-told : {A : Type 0} (refuse : Refusal → A) (go : TaskTable → A) (words : List ℕ) (t : TaskTable) {a : Answer} →
+    a ≡ onTable (unplanned words) (planned words) t .answer → (a .refusal ≡ 0 → ⊥) → refuse (refusalOf a) ≡ onTable refuse go t
+table-told refuse go words t {a} answered n = by (outcomeOf t) refl
+  where
+    by : (o : Outcome) → outcomeOf t ≡ o → refuse (refusalOf a) ≡ onTable refuse go t
+    by Accepted e = absurd (n (rw (answered, table-accepted (unplanned words) (planned words) t e)))
+    by (Refused r) e = rw (answered, table-refused (unplanned words) (planned words) t e) (sym (table-refused refuse go t e))
 
 -- a record, by the outcome of its reading
 module _ {A : Type 0} (refuse : Refusal → A) (go : TaskTable → A) (bytes : List ℕ) (cost : ℕ) where

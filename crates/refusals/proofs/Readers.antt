@@ -1,4 +1,4 @@
--- The reader's own numbers are above 0, so that none of its refusals is told as an acceptance, and none is 10: a test that computes over the whole
+-- The reader's own numbers are above 0, so that none of its refusals is told as an acceptance, none is above 21, and none is 10: a test that computes over the whole
 -- list holds of each of its numbers.
 use mathlib.Core.Path.{_≡_, refl, ap, _∙_}
 use mathlib.Core.Bool.{Bool, true, false, not, _&&_, _||_}
@@ -7,7 +7,7 @@ use Prim.Native.Nat.{ℕ, _≤_}
 use native.Mathlib.Omega.{arith}
 use borrow.Author.Tests.{eqb-true, leb-true}
 use lib.Dec.{eqb, leb}
-use Rattle.refusals.specs.Numbers.{loop}
+use Rattle.refusals.specs.Numbers.{loop, noneRuns}
 use Rattle.refusals.specs.Readers.{readers, isIn, isReaders}
 
 -- the test holds of every number of the list
@@ -39,3 +39,8 @@ readers-not-loop n e q = true-false (each (λ m. not (eqb m loop)) readers n ref
 pub readers-low : (n : ℕ) → isReaders n ≡ true → 1 ≤ n
 unfolding every
 readers-low n e = leb-true 1 n (each (leb 1) readers n refl e)
+
+-- and 21 is the last
+pub readers-high : (n : ℕ) → isReaders n ≡ true → n ≤ noneRuns
+unfolding every
+readers-high n e = leb-true n noneRuns (each (λ m. leb m noneRuns) readers n refl e)

@@ -96,3 +96,7 @@ manyTasks = 23
 -- cost above 255
 abbrev pub highCost : ℕ
 highCost = 26
+
+-- a file of more than 1,048,576 bytes
+abbrev pub longFile : ℕ
+longFile = 27

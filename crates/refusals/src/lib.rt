@@ -3,7 +3,7 @@ ghost use mathlib.Core.Path.{_≡_};
 ghost use Rattle.refusals.specs.Refusal.{refusal, looped, refusalOf};
 ghost use Rattle.refusals.specs.InOrder.{inOrder};
 ghost use Rattle.refusals.specs.Answer.{accepted, refused, answerOf};
-ghost use Rattle.refusals.specs.Numbers.{ended, tooLong, badEdition, badId, badPeriod, badCount, badExecution, badParent, bytesFollow, loop, longPath, idStands, boardFull, notStanding, badCores, fewWords, unsoundBoard, notShortest, wrongLength, verdictNo, noneRuns, badLayout, manyTasks, highCost};
+ghost use Rattle.refusals.specs.Numbers.{ended, tooLong, badEdition, badId, badPeriod, badCount, badExecution, badParent, bytesFollow, loop, longPath, idStands, boardFull, notStanding, badCores, fewWords, unsoundBoard, notShortest, wrongLength, verdictNo, noneRuns, badLayout, manyTasks, highCost, longFile};
 
 // A number of the table; a place: a byte of the input, for 10 a node, else 0; for 10 the nodes of a loop, else none.
 pub struct Refusal {
@@ -60,6 +60,8 @@ impl Refusal {
     pub const MANY_TASKS: u64 = 23;
 
     pub const HIGH_COST: u64 = 26;
+
+    pub const LONG_FILE: u64 = 27;
 
     pub fn of(number: u64, place: usize) -> Self
         ensures { λ r. ⌜ r ≡ refusal number place ⌝ }
@@ -183,4 +185,5 @@ pub fn constants_named()
     ensures { λ _. do ⌜ (← ⟦Refusal::BAD_LAYOUT⟧ .entry) ≡ badLayout ⌝ }
     ensures { λ _. do ⌜ (← ⟦Refusal::MANY_TASKS⟧ .entry) ≡ manyTasks ⌝ }
     ensures { λ _. do ⌜ (← ⟦Refusal::HIGH_COST⟧ .entry) ≡ highCost ⌝ }
+    ensures { λ _. do ⌜ (← ⟦Refusal::LONG_FILE⟧ .entry) ≡ longFile ⌝ }
 {}

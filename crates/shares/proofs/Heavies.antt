@@ -36,7 +36,7 @@ pub pick-le′ : (b : Bool) (x : ℕ) → pick b 0 x ≤ x
 pick-le′ true x = omega arith
 pick-le′ false x = le-refl x
 
-one-le : (b : Bool) → one b ≤ 1
+pub one-le : (b : Bool) → one b ≤ 1
 one-le true = omega arith
 one-le false = omega arith
 

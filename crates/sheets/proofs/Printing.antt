@@ -1,29 +1,21 @@
 -- A written plan can be printed: its counts are at most 64, no word is missing, and each density is at most two millions. And a text that is
 -- known under another name is written all the same.
-use mathlib.Core.Path.{_≡_, refl, sym, ap}
+use mathlib.Core.Path.{_≡_, ap}
 use mathlib.Core.List.{List}
 use Prim.Native.Nat.{ℕ, _+_, _*_, _≤_, _<_}
 use native.Mathlib.Omega.{arith}
 use borrow.Author.Tests.{lt-ltb, le-ltb}
 use lib.ListN.{length, drop, length-drop}
-use Rattle.refusals.specs.declared.Answer.{Answer}
-use Rattle.refusals.specs.declared.Outcome.{Outcome}
-use Rattle.refusals.specs.declared.Outcome.the-variants as outcome
-use Rattle.refusals.specs.Refusal.{refusalOf}
 use Rattle.tables.specs.declared.TaskTable.{TaskTable}
 use Rattle.segments.proofs.Segments.{segments-le}
 use Rattle.plans.specs.Diagram.{finish}
 use Rattle.plans.specs.Words.{wordsMax, written}
-use Rattle.plans.specs.Calls.{onTable, unplanned, planned}
 use Rattle.plans.specs.Inner.Planned.{Planned}
-use Rattle.plans.specs.Inner.Drawn.{outcomeOf}
-use Rattle.plans.proofs.Tests.{table-refused, table-accepted}
 use Rattle.plans.proofs.Figures.{plan-fits, figures-in}
 use Rattle.plans.proofs.Read.{at-segments, at-nodes}
 use Rattle.texts.specs.Inner.Wrote.{Wrote}
-use Rattle.sheets.specs.Lines.{refusedLine}
 use Rattle.sheets.specs.Sheet.{sheetMax}
-use Rattle.sheets.specs.Printed.{tableSheet, printed}
+use Rattle.sheets.specs.Printed.{printed}
 use Rattle.sheets.specs.Inner.Printable.{Printable}
 
 -- the text under another name
@@ -47,14 +39,6 @@ module _ (text out : List ℕ) where
 -- room for n triples in the words from a place on
 pub part-room : (w : List ℕ) (from n : ℕ) → from + 3 * n ≤ length w → 3 * n ≤ length (drop from w)
 part-room w from n h = rw length-drop (omega arith)
-
--- a table whose planning is refused has the line of that refusal
-pub refused-line : (words : List ℕ) (t : TaskTable) {a : Answer} → a ≡ onTable (unplanned words) (planned words) t .answer → (a .refusal ≡ 0 → ⊥) → refusedLine (refusalOf a) ≡ onTable refusedLine tableSheet t
-refused-line words t {a} answered n = go (outcomeOf t) refl
-  where
-    go : (o : Outcome) → outcomeOf t ≡ o → refusedLine (refusalOf a) ≡ onTable refusedLine tableSheet t
-    go outcome.Accepted e = absurd (n (rw (answered, table-accepted (unplanned words) (planned words) t e)))
-    go (outcome.Refused r) e = rw (answered, table-refused (unplanned words) (planned words) t e) (sym (table-refused refusedLine tableSheet t e))
 
 module _ {t : TaskTable} (ok : Planned t) (words : List ℕ) (room : wordsMax ≤ length words) where
   pub printable : {w : List ℕ} → w ≡ written t words → Printable w

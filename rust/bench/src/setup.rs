@@ -1,8 +1,9 @@
-//! The tasks and boards that are measured.
+//! The tasks, boards and files that are measured.
 
-use ffi::task::{chain, dense, fork, ring, Node, Task};
+use ffi::task::{chain, dense, fork, number, ring, Node, Task};
 use reference::Row;
 use std::iter;
+use std::ops::Range;
 
 /// Starts on a cache line, so that the times don't depend on where it lies.
 #[repr(align(64))]
@@ -101,12 +102,38 @@ pub fn different(shape: Shape) -> Vec<Vec<u8>> {
     (0..DIFFERENT).map(one).collect()
 }
 
-/// Tasks of 64 nodes that differ in everything: each node waits for up to
+/// Tasks of so many nodes that differ in everything: each node waits for up to
 /// three others, whatever their numbers.
-pub fn scattered() -> Vec<Vec<u8>> {
+pub fn scattered(count: u64) -> impl Iterator<Item = Vec<u8>> {
     let mut chance = Chance(2);
-    let one = |_| task(chance.parents(64), chance.executions(), 1).record();
-    (0..DIFFERENT).map(one).collect()
+    iter::repeat_with(move || task(chance.parents(count), chance.executions(), 1).record())
+}
+
+/// The bytes of the largest file.
+const LARGEST_FILE: usize = 1_048_576;
+
+/// A file of such tasks, with no room for another, and the part that each occupies.
+pub struct Building {
+    pub file: Vec<u8>,
+    pub parts: Vec<Range<usize>>,
+}
+
+impl Building {
+    pub fn of(count: u64) -> Building {
+        let (mut file, mut parts) = (Vec::new(), Vec::new());
+        for record in scattered(count) {
+            let length = number(record.len() as u64);
+            let first = file.len() + length.len();
+            let part = first..first + record.len();
+            if part.end > LARGEST_FILE {
+                break;
+            }
+            file.extend(length);
+            file.extend(record);
+            parts.push(part);
+        }
+        Building { file, parts }
+    }
 }
 
 /// Numbers without a pattern, the same in every run.

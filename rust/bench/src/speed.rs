@@ -1,9 +1,9 @@
 //! The table of times.
 
-use crate::clock::pair;
+use crate::clock::{long, pair};
 use crate::setup::{
-    board, different, half_joins, lists, record, scattered, Aligned, CHAIN, CORES, COST, DIFFERENT,
-    LONGEST, LOOSE, RING, SHAPES,
+    board, different, half_joins, lists, record, scattered, Aligned, Building, CHAIN, CORES, COST,
+    DIFFERENT, LONGEST, LOOSE, RING, SHAPES,
 };
 use ffi::task::Task;
 use reference::{Answer, Row, PLAN_WORDS};
@@ -39,6 +39,7 @@ pub fn print() {
     over(mend, mended, (read.0 + written.0, read.1 + written.1));
     let text = "the time to read the longest record's text over the time to write the record";
     over(text, graph, written);
+    buildings();
 }
 
 /// The names' column.
@@ -73,7 +74,8 @@ fn different_plans() {
         line(&name, plan_times(&different(shape), 0));
     }
     let name = format!("plan {DIFFERENT} different, scattered 64");
-    line(&name, plan_times(&scattered(), 0));
+    let records: Vec<Vec<u8>> = scattered(64).take(DIFFERENT).collect();
+    line(&name, plan_times(&records, 0));
 }
 
 fn dear_plans() {
@@ -369,4 +371,46 @@ fn graph_times(text: &[u8]) -> (f64, f64) {
             black_box(reference::read_graph(text, bytes, id, period));
         },
     )
+}
+
+/// Walks through files, beside planning their records one by one.
+fn buildings() {
+    println!();
+    println!("nanoseconds for each record of a file as large as it may be, at the best of several");
+    println!("depths of the stack: walked through by the library, planned by it one by one, and");
+    println!("walked through by the reference");
+    println!(
+        "{:NAMES$}{:>9}{:>12}{:>7}{:>11}{:>7}",
+        "", "library", "one by one", "ratio", "reference", "ratio"
+    );
+    for count in [1, 8, 16, 64] {
+        let building = Building::of(count);
+        let [walked, planned, reference] = building_times(&building);
+        let records = building.parts.len();
+        let name = format!("walk {records} different, scattered {count}");
+        let ratios = [walked / planned, walked / reference];
+        print!("{name:NAMES$}{walked:9.1}{planned:12.1}{:7.2}", ratios[0]);
+        println!("{reference:11.1}{:7.2}", ratios[1]);
+    }
+}
+
+fn building_times(Building { file, parts }: &Building) -> [f64; 3] {
+    let mut words = Aligned([0; PLAN_WORDS]);
+    // A refusal would be over sooner.
+    assert_eq!(ffi::building(file, 0).accepted, parts.len() as u64);
+    let times = long([
+        &mut || {
+            black_box(ffi::building(black_box(file), black_box(0)));
+        },
+        &mut || {
+            for part in parts {
+                let record = black_box(&file[part.clone()]);
+                black_box(ffi::plan(record, black_box(&mut words.0), black_box(0)));
+            }
+        },
+        &mut || {
+            black_box(reference::building(black_box(file), black_box(0)));
+        },
+    ]);
+    times.map(|time| time / parts.len() as f64)
 }

@@ -5,8 +5,8 @@ use crate::frames;
 use crate::setup::{
     board, half_joins, lists, roomy_record, Aligned, CORES, COST, LONGEST, RING, SHAPES,
 };
-use ffi::task::Task;
-use reference::{Answer, Mending, Row, PLAN_WORDS};
+use ffi::task::{file, Task};
+use reference::{Answer, Counts, Mending, Row, PLAN_WORDS};
 use std::hint::black_box;
 use std::ptr;
 use std::thread;
@@ -32,18 +32,19 @@ pub fn print() {
     println!("admit the deepest of 64 nodes in each shape, a chain half of joins, the ring and");
     println!("the longest record, at cost {COST}; admit is for {CORES} cores, which have room;");
     println!("write is of the longest record, mend of that and of the longest that is mended,");
-    println!("read a graph of the longest record's text");
+    println!("read a graph of the longest record's text, building of plan's records in a file");
     println!("{:42}{:>9}{:>11}", "", "library", "reference");
     let with_id = |(shape, id)| roomy_record(shape, 64, id);
     let shapes = SHAPES.into_iter().chain([RING]);
     let mut records: Vec<Vec<u8>> = shapes.zip(90..).map(with_id).collect();
     records.extend([half_joins(64, 99), Task::longest().record()]);
-    plan_depths(&records);
+    let planned = plan_depths(&records);
     put_depths(&records);
     board_depths();
     write_depths();
     line("mend", mend_depth(ffi::mend), mend_depth(reference::mend));
     graph_depths();
+    building_depths(&records, planned);
     if cfg!(target_arch = "x86_64") {
         step_depth();
     }
@@ -64,7 +65,7 @@ fn line(name: &str, library: usize, reference: usize) {
     println!("{name:42}{library:9}{reference:11}");
 }
 
-fn plan_depths(records: &[Vec<u8>]) {
+fn plan_depths(records: &[Vec<u8>]) -> [usize; 2] {
     let mut words = [0; PLAN_WORDS];
     let library = deepest(records, |record| {
         black_box(ffi::plan(record, black_box(&mut words), COST));
@@ -73,6 +74,7 @@ fn plan_depths(records: &[Vec<u8>]) {
         black_box(reference::plan(record, black_box(&mut words), COST));
     });
     line("plan", library, reference);
+    [library, reference]
 }
 
 /// Noted, admitted, and what the guard takes.
@@ -95,8 +97,13 @@ fn put_depths(records: &[Vec<u8>]) {
     ];
     line("note", noted[0], noted[1]);
     line("admit", admitted[0], admitted[1]);
-    let more = |side: usize| admitted[side] as isize - noted[side] as isize;
-    println!("{:42}{:+9}{:+11}", "admit less note", more(0), more(1));
+    less("admit less note", admitted, noted);
+}
+
+/// What a call takes more than another.
+fn less(name: &str, call: [usize; 2], other: [usize; 2]) {
+    let more = |side: usize| call[side] as isize - other[side] as isize;
+    println!("{name:42}{:+9}{:+11}", more(0), more(1));
 }
 
 /// All but the ring and the longest record find a row.
@@ -190,6 +197,25 @@ fn graph_depth(read: impl Fn(&[u8], &mut [u8], u64, u64) -> Answer + Send + Sync
     });
     let record = Task { edition: 2, ..task }.record();
     assert_eq!(bytes[..], record);
+    depth
+}
+
+/// Walked through, and what the walk takes beside planning.
+fn building_depths(records: &[Vec<u8>], planned: [usize; 2]) {
+    let file = file(records);
+    let walked = [
+        building_depth(&file, ffi::building),
+        building_depth(&file, reference::building),
+    ];
+    line("building", walked[0], walked[1]);
+    less("building less plan", walked, planned);
+}
+
+/// Its answer, which has 328 bytes, is in the frame that makes the call.
+fn building_depth(file: &[u8], building: impl Fn(&[u8], u64) -> Counts + Send + Sync) -> usize {
+    let mut counts = Counts::default();
+    let depth = depth(&mut || counts = building(black_box(file), COST));
+    assert_eq!(counts.answer.refusal, 0);
     depth
 }
 

@@ -3,9 +3,10 @@
 
 use crate::graph::Graph;
 use crate::guarded::{self, Buffers, Guard};
+use crate::said::Said;
 use crate::writing::{old_bytes, Writing};
-use crate::{graphed, mended, rounds, sales, written};
-use reference::{Answer, Mending, Row};
+use crate::{counted, graphed, mended, rounds, sales, written};
+use reference::{Answer, Counts, Mending, Row};
 
 #[derive(Clone, PartialEq)]
 pub enum Call {
@@ -27,6 +28,10 @@ pub enum Call {
         lent: u64,
     },
     ReadGraph(Graph),
+    Building {
+        file: Vec<u8>,
+        cost: u64,
+    },
 }
 
 impl Call {
@@ -51,7 +56,7 @@ impl Call {
         Call::ASKS.map(|ask| ask(cores))
     }
 
-    /// The record that the call reads, if it reads one.
+    /// The record that the call reads, if it reads one and no more.
     pub fn record(&self) -> Option<&[u8]> {
         match self {
             Call::Plan(record, _)
@@ -62,7 +67,8 @@ impl Call {
             | Call::Ask(_)
             | Call::AskToEnd(_)
             | Call::Write(_)
-            | Call::ReadGraph(_) => None,
+            | Call::ReadGraph(_)
+            | Call::Building { .. } => None,
         }
     }
 }
@@ -86,19 +92,19 @@ impl Case {
 }
 
 /// The first call after which the two sides aren't equal, or the library's
-/// answer breaks a rule of loops, of admitting, of writing, of mending or of
-/// graphs, or a promise of the sales sheet.
+/// answer breaks a rule of loops, of admitting, of writing, of mending, of graphs
+/// or of buildings, or a promise of the sales sheet.
 pub struct Difference {
     pub call: usize,
-    pub library: Mending,
-    pub reference: Mending,
+    pub library: Said,
+    pub reference: Said,
     /// The first differing word, row or byte, if it is in a buffer.
     pub spot: Option<String>,
     /// The rule or promise that the library's answer breaks.
     pub broken: Option<&'static str>,
 }
 
-/// The nine calls of one side.
+/// The ten calls of one side.
 struct Planner {
     plan: fn(&[u8], &mut [u64], u64) -> Answer,
     note: fn(&[u8], &mut [u64], &mut [Row], u64) -> Answer,
@@ -109,6 +115,7 @@ struct Planner {
     write_record: fn(&[u64], &[u64], &mut [u8], u64, u64, u64) -> Answer,
     mend: fn(&[u8], &mut [u8]) -> Mending,
     read_graph: fn(&[u8], &mut [u8], u64, u64) -> Answer,
+    building: fn(&[u8], u64) -> Counts,
 }
 
 const LIBRARY: Planner = Planner {
@@ -121,6 +128,7 @@ const LIBRARY: Planner = Planner {
     write_record: ffi::write_record,
     mend: ffi::mend,
     read_graph: ffi::read_graph,
+    building: ffi::building,
 };
 
 const REFERENCE: Planner = Planner {
@@ -133,6 +141,7 @@ const REFERENCE: Planner = Planner {
     write_record: reference::write_record,
     mend: reference::mend,
     read_graph: reference::read_graph,
+    building: reference::building,
 };
 
 /// What is counted over the calls, where nothing differs.
@@ -142,6 +151,7 @@ pub struct Tally {
     pub written: written::Tally,
     pub mended: mended::Tally,
     pub graphed: graphed::Tally,
+    pub counted: counted::Tally,
 }
 
 impl Tally {
@@ -150,6 +160,7 @@ impl Tally {
         self.written.add(&other.written);
         self.mended.add(&other.mended);
         self.graphed.add(&other.graphed);
+        self.counted.add(&other.counted);
     }
 }
 
@@ -168,7 +179,7 @@ pub fn compared(case: &Case) -> Result<Tally, Box<Difference>> {
         let theirs = reference.make(call, &REFERENCE);
         let broken = library
             .broken(call, &ours, &before)
-            .or_else(|| guard.broken(call, &ours.answer, library.board.content()));
+            .or_else(|| guard.broken(call, ours.answer(), library.board.content()));
         if ours != theirs || library != reference || broken.is_some() {
             return Err(Box::new(Difference {
                 call: at,
@@ -178,10 +189,11 @@ pub fn compared(case: &Case) -> Result<Tally, Box<Difference>> {
                 broken,
             }));
         }
-        tally.guarded.count(call, &ours.answer);
-        tally.written.count(call, &ours.answer);
-        tally.mended.count(call, &ours);
-        tally.graphed.count(call, &ours.answer);
+        tally.guarded.count(call, ours.answer());
+        tally.written.count(call, ours.answer());
+        tally.mended.count(&ours);
+        tally.graphed.count(call, ours.answer());
+        tally.counted.count(&ours);
     }
     Ok(tally)
 }
@@ -195,6 +207,7 @@ struct Lent {
     executions: Fenced<u64>,
     parents: Fenced<u64>,
     text: Fenced<u8>,
+    file: Fenced<u8>,
     bytes: Fenced<u8>,
 }
 
@@ -218,6 +231,7 @@ impl Lent {
             executions: Fenced::new(&[], 1),
             parents: Fenced::new(&[], 1),
             text: Fenced::new(&[], b'1'),
+            file: Fenced::new(&[], 1),
             bytes: Fenced::new(&[], 0xFE),
         }
     }
@@ -238,12 +252,12 @@ impl Lent {
                 self.text.refill(&graph.text);
                 self.bytes.refill(&old_bytes(graph.lent));
             }
+            Call::Building { file, .. } => self.file.refill(file),
             _ => (),
         }
     }
 
-    /// Of a call that counts nothing, the counts are 0.
-    fn make(&mut self, call: &Call, by: &Planner) -> Mending {
+    fn make(&mut self, call: &Call, by: &Planner) -> Said {
         self.refill(call);
         let words = self.words.inside();
         let board = self.board.inside();
@@ -266,27 +280,32 @@ impl Lent {
                 let bytes = self.bytes.inside();
                 (by.write_record)(executions, parents, bytes, edition, id, period)
             }
-            Call::Mend { .. } => return (by.mend)(self.record.inside(), self.bytes.inside()),
+            Call::Mend { .. } => {
+                let mending = (by.mend)(self.record.inside(), self.bytes.inside());
+                return Said::Mending(mending);
+            }
             Call::ReadGraph(Graph { id, period, .. }) => {
                 (by.read_graph)(self.text.inside(), self.bytes.inside(), id, period)
             }
+            Call::Building { cost, .. } => {
+                let counts = (by.building)(self.file.inside(), cost);
+                return Said::Counts(Box::new(counts));
+            }
         };
-        Mending {
-            answer,
-            ..Mending::default()
-        }
+        Said::Answer(answer)
     }
 
     /// The first rule or promise that the answer breaks by itself.
-    fn broken(&self, call: &Call, mending: &Mending, before: &Lent) -> Option<&'static str> {
-        let answer = &mending.answer;
+    fn broken(&self, call: &Call, said: &Said, before: &Lent) -> Option<&'static str> {
+        let answer = said.answer();
         let board = self.board.content();
         rounds::broken(call, answer)
             .or_else(|| sales::broken(call, answer, board))
             .or_else(|| guarded::broken(call, answer, before.buffers(), self.buffers()))
             .or_else(|| written::broken(call, answer, self.bytes.content()))
-            .or_else(|| mended::broken(call, mending, self.bytes.content()))
+            .or_else(|| mended::broken(call, said, self.bytes.content()))
             .or_else(|| graphed::broken(call, answer, self.bytes.content()))
+            .or_else(|| counted::broken(call, said))
     }
 
     fn buffers(&self) -> Buffers<'_> {
@@ -309,13 +328,17 @@ impl Lent {
             self.text
                 .first_difference(&reference.text, "byte of the text")
         };
+        let file = || {
+            self.file
+                .first_difference(&reference.file, "byte of the file")
+        };
         let written = || {
             self.bytes
                 .first_difference(&reference.bytes, "written byte")
         };
         let read = word.or_else(row).or_else(byte);
         let read = read.or_else(execution).or_else(set).or_else(text);
-        read.or_else(written)
+        read.or_else(file).or_else(written)
     }
 }
 

@@ -131,7 +131,7 @@ fn together(random: &mut Random) -> Vec<Call> {
 }
 
 /// A record for each of 1 to 11, for 18 and for 21, and two that are planned.
-const RECORDS: [&[u8]; 15] = [
+pub const RECORDS: [&[u8]; 15] = [
     &[],
     &[0x80, 0x80, 0x80, 0x80],
     &[0],

@@ -116,7 +116,8 @@ fn read_node(rest: &mut &[u8]) -> Option<Node> {
     })
 }
 
-fn read_number(rest: &mut &[u8]) -> Option<Spelt> {
+/// None where the bytes end inside of it, or its fourth is not its last.
+pub fn read_number(rest: &mut &[u8]) -> Option<Spelt> {
     let last = rest.iter().take(4).position(|&byte| byte < 0x80)?;
     let (groups, after) = rest.split_at(last + 1);
     *rest = after;

@@ -8,6 +8,7 @@ use crate::chance::{
 };
 use crate::costs::{self, ALLOWED, COSTS, REFUSED};
 use crate::draft::Draft;
+use crate::files::{self, any_building};
 use crate::fits::{guarded_call, tight_fit};
 use crate::graph::Graph;
 use crate::graphing::{self, any_graph};
@@ -67,6 +68,14 @@ impl Run {
     }
 
     pub fn all(&mut self) -> Outcome {
+        self.all_of_planning()?;
+        self.all_of_writing()?;
+        self.all_of_files()?;
+        self.family("by chance", Run::by_chance)
+    }
+
+    /// Records, and boards with their tasks on them.
+    fn all_of_planning(&mut self) -> Outcome {
         self.family("worked tables", Run::worked_tables)?;
         self.family("cuts", Run::cuts)?;
         self.family("bit flips", Run::bit_flips)?;
@@ -84,7 +93,11 @@ impl Run {
         self.family("verdicts to the end", Run::verdicts_to_end)?;
         self.family("tight fits", Run::tight_fits)?;
         self.family("guarded runs", Run::guarded_runs)?;
-        self.family("sequences", Run::sequences)?;
+        self.family("sequences", Run::sequences)
+    }
+
+    /// Lists, records to be mended, and texts of graphs.
+    fn all_of_writing(&mut self) -> Outcome {
         self.family("limits to write", Run::limits_to_write)?;
         self.family("two faults to write", Run::two_faults_to_write)?;
         self.family("lengths to write", Run::lengths_to_write)?;
@@ -102,8 +115,17 @@ impl Run {
         self.family("faults in texts", Run::faults_in_texts)?;
         self.family("lengths for texts", Run::lengths_for_texts)?;
         self.family("counts in texts", Run::counts_in_texts)?;
-        self.family("texts", Run::texts)?;
-        self.family("by chance", Run::by_chance)
+        self.family("texts", Run::texts)
+    }
+
+    /// Files to be walked through.
+    fn all_of_files(&mut self) -> Outcome {
+        self.family("cuts of files", Run::cuts_of_files)?;
+        self.family("bytes of files", Run::bytes_of_files)?;
+        self.family("lengths in files", Run::lengths_in_files)?;
+        self.family("records in files", Run::records_in_files)?;
+        self.family("largest files", Run::largest_files)?;
+        self.family("files", Run::files)
     }
 
     fn family(&mut self, name: &'static str, cases: fn(&mut Run) -> Outcome) -> Outcome {
@@ -504,25 +526,25 @@ impl Run {
         Ok(())
     }
 
-    fn mend_each(&mut self, calls: fn(&mut Random) -> Vec<Call>) -> Outcome {
+    fn each_alone(&mut self, calls: fn(&mut Random) -> Vec<Call>) -> Outcome {
         let mut calls = calls(&mut self.random).into_iter();
         calls.try_for_each(|call| self.alone(call))
     }
 
     fn forms_to_mend(&mut self) -> Outcome {
-        self.mend_each(mending::forms)
+        self.each_alone(mending::forms)
     }
 
     fn lists_to_mend(&mut self) -> Outcome {
-        self.mend_each(mending::lists)
+        self.each_alone(mending::lists)
     }
 
     fn counts_to_mend(&mut self) -> Outcome {
-        self.mend_each(mending::counts)
+        self.each_alone(mending::counts)
     }
 
     fn lengths_to_mend(&mut self) -> Outcome {
-        self.mend_each(mending::lengths)
+        self.each_alone(mending::lengths)
     }
 
     fn records_to_mend(&mut self) -> Outcome {
@@ -574,6 +596,34 @@ impl Run {
         Ok(())
     }
 
+    fn cuts_of_files(&mut self) -> Outcome {
+        self.each_alone(files::cuts)
+    }
+
+    fn bytes_of_files(&mut self) -> Outcome {
+        self.each_alone(files::bytes)
+    }
+
+    fn lengths_in_files(&mut self) -> Outcome {
+        self.each_alone(files::lengths)
+    }
+
+    fn records_in_files(&mut self) -> Outcome {
+        self.each_alone(files::records)
+    }
+
+    fn largest_files(&mut self) -> Outcome {
+        self.each_alone(files::largest)
+    }
+
+    fn files(&mut self) -> Outcome {
+        for _ in 0..10_000 {
+            let building = any_building(&mut self.random);
+            self.alone(building)?;
+        }
+        Ok(())
+    }
+
     fn by_chance(&mut self) -> Outcome {
         while self.compared < self.wanted {
             self.one_by_chance()?;
@@ -585,7 +635,7 @@ impl Run {
         let random = &mut self.random;
         let cost = any_cost(random);
         let cores = random.between(1, 64);
-        match random.below(64) {
+        match random.below(68) {
             0 => self.sequence(100),
             1..=8 => {
                 let board = any_board(random);
@@ -612,22 +662,23 @@ impl Run {
                 let record = misspelt(random, &numbers);
                 self.plan_at(record, cost)
             }
-            33..=40 => {
-                let writing = any_writing(random);
-                self.alone(Call::Write(writing))
-            }
-            41..=48 => {
-                let mending = any_mending(random);
-                self.alone(mending)
-            }
-            49..=56 => {
-                let graph = any_graph(random);
-                self.alone(Call::ReadGraph(graph))
-            }
+            33..=60 => self.one_alone(),
             _ => {
                 let record = random_task(random, cost).record();
                 self.plan_at(record, cost)
             }
         }
+    }
+
+    /// A call that needs neither words nor a board.
+    fn one_alone(&mut self) -> Outcome {
+        let random = &mut self.random;
+        let call = match random.below(7) {
+            0 | 1 => Call::Write(any_writing(random)),
+            2 | 3 => any_mending(random),
+            4 | 5 => Call::ReadGraph(any_graph(random)),
+            _ => any_building(random),
+        };
+        self.alone(call)
     }
 }

@@ -5,9 +5,11 @@ mod boards;
 mod case;
 mod chance;
 mod costs;
+mod counted;
 mod draft;
 mod edition1;
 mod families;
+mod files;
 mod fits;
 mod graph;
 mod graphed;
@@ -18,11 +20,13 @@ mod lists;
 mod loops;
 mod mended;
 mod mending;
+mod parts;
 mod random;
 mod records;
 mod refused;
 mod report;
 mod rounds;
+mod said;
 mod sales;
 mod shrink;
 mod sketch;
@@ -115,5 +119,17 @@ fn print_tally(Run { tally, again, .. }: &Run) {
     println!("lists reordered: {reordered}, parents dropped: {dropped}");
     let graphed::Tally { read, refused } = &tally.graphed;
     println!("graphs read: {read}, refused by {refused}");
+    let counted::Tally {
+        walked,
+        refused,
+        accepted,
+        records_refused,
+        heavy,
+        light,
+        dense,
+    } = &tally.counted;
+    println!("files walked to their end: {walked}, refused by {refused}");
+    println!("records in files accepted: {accepted}, refused by {records_refused}");
+    println!("of those, segments heavy: {heavy}, light: {light}, tasks dense: {dense}");
     println!("records read, then written and mended, byte for byte: {again}");
 }

@@ -5,6 +5,7 @@
 use crate::case::Call;
 use crate::draft::{Draft, Node, Spelt};
 use crate::refused::Refused;
+use crate::said::Said;
 use crate::writing::old_bytes;
 use crate::written;
 use ffi::task::encoded;
@@ -42,8 +43,8 @@ const RULES: [Rule; 7] = [
 ];
 
 /// The first rule that the answer breaks.
-pub fn broken(call: &Call, mending: &Mending, bytes: &[u8]) -> Option<&'static str> {
-    let Call::Mend { given, lent } = call else {
+pub fn broken(call: &Call, said: &Said, bytes: &[u8]) -> Option<&'static str> {
+    let (Call::Mend { given, lent }, Said::Mending(mending)) = (call, said) else {
         return None;
     };
     let mended = Mended {
@@ -209,10 +210,10 @@ pub struct Tally {
 }
 
 impl Tally {
-    pub fn count(&mut self, call: &Call, mending: &Mending) {
-        if !matches!(call, Call::Mend { .. }) {
+    pub fn count(&mut self, said: &Said) {
+        let Said::Mending(mending) = said else {
             return;
-        }
+        };
         match mending.answer.refusal {
             0 => self.mended += 1,
             number => self.refused.count(number),

@@ -1,4 +1,4 @@
-//! How many calls were refused, by which number.
+//! How many calls, or records of files, were refused, by which number.
 
 use std::collections::BTreeMap;
 use std::fmt::{self, Display, Formatter};
@@ -7,6 +7,12 @@ use std::fmt::{self, Display, Formatter};
 pub struct Refused(BTreeMap<u64, u64>);
 
 impl Refused {
+    /// Of a list that has at each number how many.
+    pub fn of(counts: &[u64]) -> Refused {
+        let counts = (0..).zip(counts.iter().copied());
+        Refused(counts.filter(|&(_, many)| many > 0).collect())
+    }
+
     pub fn count(&mut self, number: u64) {
         self.add_some(number, 1);
     }

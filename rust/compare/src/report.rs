@@ -2,9 +2,13 @@
 
 use crate::case::{difference, Call, Case};
 use crate::graph::Graph;
+use crate::parts::Parts;
+use crate::refused::Refused;
+use crate::said::Said;
 use crate::stored::Changed;
 use crate::writing::Writing;
-use reference::{Answer, Mending, Row};
+use ffi::task;
+use reference::{Answer, Counts, Mending, Row};
 
 pub fn print(case: &Case) {
     println!("words: {}{}", case.words.len(), words(&case.words));
@@ -16,9 +20,8 @@ pub fn print(case: &Case) {
     for (at, call) in case.calls.iter().enumerate().take(found.call + 1) {
         println!("call {at}: {}", text(call));
     }
-    let call = &case.calls[found.call];
-    println!("  library:   {}", said(call, &found.library));
-    println!("  reference: {}", said(call, &found.reference));
+    println!("  library:   {}", said(&found.library));
+    println!("  reference: {}", said(&found.reference));
     if let Some(spot) = found.spot {
         println!("  {spot}");
     }
@@ -39,19 +42,44 @@ pub fn print_changed(Changed { stored, now, at }: &Changed) {
     println!("  now:    {}", now.get(*at).map_or("no line", |line| line));
 }
 
-/// With the counts, where the call has any.
-fn said(call: &Call, mending: &Mending) -> String {
-    let mut said = answer(&mending.answer);
-    if let Call::Mend { .. } = call {
-        let Mending {
-            padded,
-            reordered,
-            dropped,
-            ..
-        } = mending;
-        said += &format!(" padded {padded} reordered {reordered} dropped {dropped}");
-    }
-    said
+/// With the counts, where there are any.
+fn said(said: &Said) -> String {
+    let counts = match said {
+        Said::Answer(_) => String::new(),
+        Said::Mending(mending) => mending_text(mending),
+        Said::Counts(counts) => counts_text(counts),
+    };
+    answer(said.answer()) + &counts
+}
+
+fn mending_text(mending: &Mending) -> String {
+    let Mending {
+        padded,
+        reordered,
+        dropped,
+        ..
+    } = mending;
+    format!(" padded {padded} reordered {reordered} dropped {dropped}")
+}
+
+fn counts_text(counts: &Counts) -> String {
+    let Counts {
+        answer: _,
+        records,
+        accepted,
+        refused,
+        nodes,
+        segments,
+        work,
+        heavy,
+        light,
+        dense,
+    } = counts;
+    let refused = Refused::of(refused);
+    format!(
+        " records {records} accepted {accepted} refused {{{refused}}} nodes {nodes} \
+         segments {segments} work {work} heavy {heavy} light {light} dense {dense}"
+    )
 }
 
 fn answer(answer: &Answer) -> String {
@@ -80,6 +108,7 @@ fn text(call: &Call) -> String {
         Call::Write(writing) => writing_text(writing),
         Call::Mend { given, lent } => format!("mend into {lent} bytes, {}", bytes(given)),
         Call::ReadGraph(graph) => graph_text(graph),
+        Call::Building { file, cost } => format!("building at cost {cost}, {}", file_text(file)),
     }
 }
 
@@ -112,9 +141,23 @@ fn graph_text(graph: &Graph) -> String {
     )
 }
 
+/// A record that comes often in a row is printed once, with how many times.
+fn file_text(file: &[u8]) -> String {
+    let Parts { records, tail } = Parts::of(file);
+    let run = |run: &[Vec<u8>]| match run.len() {
+        1..=8 => hex(&task::file(run)),
+        many => format!(" ({} ) x {many}", hex(&task::file(&run[..1]))),
+    };
+    let runs: String = records.chunk_by(|one, next| one == next).map(run).collect();
+    format!("{} bytes:{runs}{}", file.len(), hex(&tail))
+}
+
 fn bytes(record: &[u8]) -> String {
-    let hex: String = record.iter().map(|byte| format!(" {byte:02X}")).collect();
-    format!("{} bytes:{hex}", record.len())
+    format!("{} bytes:{}", record.len(), hex(record))
+}
+
+fn hex(bytes: &[u8]) -> String {
+    bytes.iter().map(|byte| format!(" {byte:02X}")).collect()
 }
 
 fn words(words: &[u64]) -> String {

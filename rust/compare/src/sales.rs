@@ -36,7 +36,8 @@ pub fn broken(call: &Call, answer: &Answer, board: &[Row]) -> Option<&'static st
         | Call::Withdraw(_)
         | Call::Write(_)
         | Call::Mend { .. }
-        | Call::ReadGraph(_) => return None,
+        | Call::ReadGraph(_)
+        | Call::Building { .. } => return None,
     };
     if answer.refusal != 0 {
         return None;

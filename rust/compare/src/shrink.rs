@@ -4,6 +4,7 @@
 use crate::case::{difference, Call, Case};
 use crate::draft::Draft;
 use crate::graph::Graph;
+use crate::parts::Parts;
 use crate::sketch::Sketch;
 use crate::writing::Writing;
 use reference::Row;
@@ -84,17 +85,24 @@ fn shrink_call(case: &mut Case, at: usize) {
         }
         Call::Write(_) => shrink_writing(case, at),
         Call::ReadGraph(_) => shrink_graph(case, at),
+        Call::Building { .. } => shrink_building(case, at),
     }
 }
 
 /// A call that reads a record.
 fn shrink_reading(case: &mut Case, at: usize) {
+    shrink_number(case, at);
+    shrink_task(&record(case, at).clone(), |changed| {
+        keeps(case, |case| *record(case, at) = changed)
+    });
+    unpad(case, at);
+    shrink_bytes(case, at);
+}
+
+fn shrink_number(case: &mut Case, at: usize) {
     lower(*record_and_number(case, at).1, |number| {
         keeps(case, |case| *record_and_number(case, at).1 = number)
     });
-    shrink_task(case, at);
-    unpad(case, at);
-    shrink_bytes(case, at);
 }
 
 /// Of a call that a number of its own makes.
@@ -104,13 +112,14 @@ fn lower_number(case: &mut Case, at: usize, number: u64, call: impl Fn(u64) -> C
     });
 }
 
-/// The record, and a cost or the number of bytes lent.
+/// The record or file, and a cost or the number of bytes lent.
 fn record_and_number(case: &mut Case, at: usize) -> (&mut Vec<u8>, &mut u64) {
     match &mut case.calls[at] {
         Call::Plan(record, cost) | Call::Note(record, cost) | Call::Admit { record, cost, .. } => {
             (record, cost)
         }
         Call::Mend { given, lent } => (given, lent),
+        Call::Building { file, cost } => (file, cost),
         Call::Withdraw(_)
         | Call::Ask(_)
         | Call::AskToEnd(_)
@@ -155,15 +164,15 @@ const DRAFT_FIELDS: [fn(&mut Draft) -> &mut u64; 3] = [
 ];
 
 /// A record gets smaller as a task first: nodes, edges, then numbers. What is
-/// padded stays so.
-fn shrink_task(case: &mut Case, at: usize) {
-    let Some(mut draft) = Draft::read(record(case, at)) else {
+/// padded stays so. `set` says whether the changed one could be set in its place.
+fn shrink_task(record: &[u8], mut set: impl FnMut(Vec<u8>) -> bool) {
+    let Some(mut draft) = Draft::read(record) else {
         return;
     };
     let mut change = |draft: &mut Draft, change: &dyn Fn(&mut Draft)| {
         let mut changed = draft.clone();
         change(&mut changed);
-        let kept = keeps(case, |case| *record(case, at) = changed.record());
+        let kept = set(changed.record());
         if kept {
             *draft = changed;
         }
@@ -305,6 +314,55 @@ fn shrink_spelling(case: &mut Case, at: usize) {
         let value = Sketch::of(&graph(case, at).text).words[word].value();
         lower(value.unwrap_or(0), |value| {
             redraws(case, at, |sketch| sketch.words[word].set(value))
+        });
+    }
+}
+
+/// Takes the file apart, and the change over if there is still a difference.
+fn rearranges(case: &mut Case, at: usize, change: impl FnOnce(&mut Parts)) -> bool {
+    let mut parts = Parts::of(record(case, at));
+    change(&mut parts);
+    keeps(case, |case| *record(case, at) = parts.file())
+}
+
+/// Of a longer file not every record and byte is looked at: it is walked through
+/// anew each time.
+const LONG: usize = 5_000;
+
+/// Zeros alone if they will do, its end and its front, records, each of these as a
+/// task, then bytes.
+fn shrink_building(case: &mut Case, at: usize) {
+    shrink_number(case, at);
+    keeps(case, |case| record(case, at).fill(0));
+    lower(record(case, at).len() as u64, |length| {
+        keeps(case, |case| record(case, at).truncate(length as usize))
+    });
+    lower(records(case, at).len() as u64, |left| {
+        rearranges(case, at, |parts| {
+            let first = parts.records.len() - left as usize;
+            parts.records.drain(..first);
+        })
+    });
+    if record(case, at).len() <= LONG {
+        shrink_records(case, at);
+        unpad(case, at);
+        shrink_bytes(case, at);
+    }
+}
+
+fn records(case: &mut Case, at: usize) -> Vec<Vec<u8>> {
+    Parts::of(record(case, at)).records
+}
+
+fn shrink_records(case: &mut Case, at: usize) {
+    drop_parts(records(case, at).len(), |first, length| {
+        rearranges(case, at, |parts| {
+            parts.records.drain(first..first + length);
+        })
+    });
+    for number in 0..records(case, at).len() {
+        shrink_task(&records(case, at)[number], |changed| {
+            rearranges(case, at, |parts| parts.records[number] = changed)
         });
     }
 }

@@ -1,9 +1,9 @@
-//! The proved library's C interface as nine ordinary calls, so that it can
+//! The proved library's C interface as ten ordinary calls, so that it can
 //! stand wherever the reference can; and the tasks both programs feed to it.
 
 pub mod task;
 
-use reference::{Answer, Mending, Row};
+use reference::{Answer, Counts, Mending, Row};
 
 /// Where the library lies that is linked in.
 pub const LIBRARY: &str = env!("PLANNER_LIBRARY");
@@ -58,6 +58,7 @@ extern "C" {
         id: u64,
         period: u64,
     ) -> Answer;
+    fn planner_building(file: *const u8, length: usize, cost: u64) -> Counts;
 }
 
 pub fn plan(record: &[u8], words: &mut [u64], cost: u64) -> Answer {
@@ -128,4 +129,9 @@ pub fn read_graph(text: &[u8], bytes: &mut [u8], id: u64, period: u64) -> Answer
     // SAFETY: each pointer goes with its own slice's length; the two do not
     // overlap.
     unsafe { planner_read_graph(text, length, bytes, lent, id, period) }
+}
+
+pub fn building(file: &[u8], cost: u64) -> Counts {
+    // SAFETY: pointer and length are one slice's, which is only read.
+    unsafe { planner_building(file.as_ptr(), file.len(), cost) }
 }

@@ -1,4 +1,4 @@
-//! Tasks, their records, their texts, and some shapes of graph.
+//! Tasks, their records, their texts, files of records, and some shapes of graph.
 
 /// A node's execution, 0 for a join, and its parents, ascending.
 #[derive(Clone, Debug, PartialEq)]
@@ -131,6 +131,16 @@ pub fn encoded(numbers: &[u64]) -> Vec<u8> {
         bytes.push(value as u8);
     }
     bytes
+}
+
+/// A building's file: each record after its length.
+pub fn file(records: &[Vec<u8>]) -> Vec<u8> {
+    let mut file = Vec::new();
+    for record in records {
+        file.extend(number(record.len() as u64));
+        file.extend(record);
+    }
+    file
 }
 
 /// Each node has the one before it as its parent.

@@ -1,5 +1,5 @@
 //! Document 01, as the requests of document 02 change it, in plain Rust: the
-//! nine public calls and the printed sheets.
+//! ten public calls and the printed sheets.
 //!
 //! Written from the documents alone, but for which loop is shown (the choice
 //! is docs/PROTOCOL.md's), so that an answer of the proved library can be held
@@ -8,6 +8,7 @@
 #![forbid(unsafe_code)]
 
 mod board;
+mod building;
 mod graph;
 mod mend;
 mod plan;
@@ -19,6 +20,7 @@ mod sheet;
 mod timing;
 mod write;
 
+pub use building::{building_sheet, Counts};
 pub use graph::graph_sheet;
 pub use mend::Mending;
 pub use plan::PLAN_WORDS;
@@ -33,10 +35,11 @@ use refusal::{Refusal, Rule};
 use timing::Timing;
 use write::write;
 
-/// What every call returns, mending with counts beside it. With refusal 0,
-/// `value` is the words or bytes written, the row filled or freed, or 1 for yes
-/// and 0 for no; otherwise it is 0. Beside refusal 10, `ring` is the set of a
-/// loop's nodes, node k as bit k; else 0.
+/// What every call returns, mending and the walk through a building with counts
+/// beside it. With refusal 0, `value` is the words or bytes written, the row
+/// filled or freed, the records walked through, or 1 for yes and 0 for no;
+/// otherwise it is 0. Beside refusal 10, `ring` is the set of a loop's nodes, node
+/// k as bit k; else 0.
 #[repr(C)]
 #[derive(Clone, Copy, Debug, Default, PartialEq, Eq)]
 pub struct Answer {
@@ -128,6 +131,13 @@ pub fn mend(given: &[u8], bytes: &mut [u8]) -> Mending {
 /// that id and period, into the lent bytes. The value is the number of bytes.
 pub fn read_graph(text: &[u8], bytes: &mut [u8], id: u64, period: u64) -> Answer {
     graph::written(text, bytes, id, period).into()
+}
+
+/// Walks through a building's file of records, each after its length, and plans
+/// each alone, every step at that dispatch cost. The value is the number of
+/// records.
+pub fn building(file: &[u8], cost: u64) -> Counts {
+    Counts::of(file, cost)
 }
 
 /// What the calls read a record as, or their answer where it is refused. It is

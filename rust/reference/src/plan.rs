@@ -39,6 +39,13 @@ pub fn write_plan(table: &Table, timing: &Timing, words: &mut [u64; PLAN_WORDS])
     }
 }
 
+/// How many of the task's segments are heavy.
+pub fn heavy_segments(period: u64, timing: &Timing) -> u64 {
+    let shares = Shares::of(period, timing);
+    let is_heavy = |segment: &&Segment| shares.is_heavy(segment);
+    timing.segments().iter().filter(is_heavy).count() as u64
+}
+
 /// Where each segment's deadline ends, counted from 0 and over Q: entry j is
 /// the sum of the deadlines before segment j.
 type Ends = [u64; Table::LARGEST_COUNT + 1];

@@ -25,7 +25,7 @@ impl Table {
 
     /// Refusals 1 to 9 and 18, in the order they are met, then 21.
     pub(crate) fn read(record: &[u8]) -> Result<Table, Refusal> {
-        let mut reader = Reader { record, at: 0 };
+        let mut reader = Reader::of(record);
         let edition = reader.within(1, Table::LARGEST_EDITION, Rule::Edition)?;
         let id = reader.within(1, Table::LARGEST_ID, Rule::Id)?;
         let period = reader.within(1, Table::LARGEST_PERIOD, Rule::Period)?;
@@ -71,13 +71,34 @@ impl Table {
     }
 }
 
-/// The record and the place of the next byte in it.
-struct Reader<'a> {
+/// The record, or the file of records, and the place of the next byte in it.
+pub struct Reader<'a> {
     record: &'a [u8],
     at: usize,
 }
 
-impl Reader<'_> {
+impl<'a> Reader<'a> {
+    pub fn of(record: &'a [u8]) -> Reader<'a> {
+        Reader { record, at: 0 }
+    }
+
+    pub fn place(&self) -> usize {
+        self.at
+    }
+
+    pub fn is_at_end(&self) -> bool {
+        self.at == self.record.len()
+    }
+
+    /// So many bytes; refusal 1 where fewer are left.
+    pub fn part(&mut self, length: usize) -> Result<&'a [u8], Refusal> {
+        let Some(part) = self.record[self.at..].get(..length) else {
+            return Err(Refusal::at(Rule::InputEnds, self.record.len()));
+        };
+        self.at += length;
+        Ok(part)
+    }
+
     /// A parent count and that many ascending parents, as a set.
     fn parents(&mut self, count: u64) -> Result<u64, Refusal> {
         let written = self.within(0, count, Rule::Parents)?;
@@ -105,7 +126,7 @@ impl Reader<'_> {
 
     /// Most numbers are one byte, so that case goes first.
     #[inline]
-    fn number(&mut self) -> Result<u64, Refusal> {
+    pub fn number(&mut self) -> Result<u64, Refusal> {
         match self.record.get(self.at) {
             Some(&byte) if byte < 0x80 => {
                 self.at += 1;
@@ -135,7 +156,7 @@ impl Reader<'_> {
     }
 
     fn end(&self) -> Result<(), Refusal> {
-        if self.at < self.record.len() {
+        if !self.is_at_end() {
             return Err(Refusal::at(Rule::BytesFollow, self.at));
         }
         Ok(())

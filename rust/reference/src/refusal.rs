@@ -27,6 +27,7 @@ pub enum Rule {
     Layout = 22,
     TaskCount = 23,
     Cost = 26,
+    LongFile = 27,
 }
 
 /// A rule, the byte or node it was broken at, and the nodes of a loop.
@@ -53,6 +54,11 @@ impl Refusal {
             place: node,
             ring,
         }
+    }
+
+    /// The same rule, broken elsewhere.
+    pub fn moved(self, place: usize) -> Refusal {
+        Refusal { place, ..self }
     }
 
     pub fn number(self) -> u64 {

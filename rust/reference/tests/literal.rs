@@ -1,8 +1,9 @@
 //! The planner against the document's definitions taken literally: reaching
 //! by closure, cuts from every start and finish, offsets by walking parents,
-//! a loop by leaving out nodes, an execution as what is written plus the cost.
+//! a loop by leaving out nodes, an execution as what is written plus the cost,
+//! a file's counts as sums over its tasks.
 
-use reference::{note, plan, Answer, Row, PLAN_WORDS};
+use reference::{building, note, plan, Answer, Counts, Row, PLAN_WORDS};
 use std::collections::BTreeSet;
 
 #[derive(Clone)]
@@ -102,6 +103,11 @@ impl Task {
     fn work(&self) -> u64 {
         let nodes = 0..self.executions.len();
         nodes.map(|node| self.execution(node)).sum()
+    }
+
+    /// With that path.
+    fn is_heavy(&self, segment: &Segment, path: u64) -> bool {
+        segment.threads() * (2 * self.period - path) > self.work()
     }
 
     /// Whether the node is reached from itself by edges inside the set.
@@ -211,7 +217,7 @@ fn deadlines(task: &Task, segments: &[Segment]) -> (u64, Vec<u64>) {
     let period = task.period;
     let work = task.work();
     let path = total(segments);
-    let is_heavy = |segment: &Segment| segment.threads() * (2 * period - path) > work;
+    let is_heavy = |segment: &Segment| task.is_heavy(segment, path);
     let l = total(segments.iter().filter(|segment| !is_heavy(segment)));
     let heavy = segments.iter().filter(|segment| is_heavy(segment));
     let h: u64 = heavy.map(Segment::work).sum();
@@ -358,4 +364,58 @@ fn a_cost_may_as_well_be_written() {
         }
     }
     assert!(planned > 5_000, "only {planned} paid a cost");
+}
+
+/// Adds what is counted of a task. Whether a density is above one is seen in the
+/// unrounded fraction.
+fn count(counts: &mut Counts, task: &Task) {
+    counts.records += 1;
+    let words = match literal(task) {
+        Ok(words) => words,
+        Err(Answer { refusal, .. }) => {
+            counts.refused[refusal as usize] += 1;
+            return;
+        }
+    };
+    let segments = segments(task);
+    let path = total(&segments);
+    let heavy = segments
+        .iter()
+        .filter(|segment| task.is_heavy(segment, path));
+    let heavy = heavy.count();
+    let mut nodes = (0..).zip(words[3 + 3 * segments.len()..].chunks(3));
+    let is_dense = nodes.any(|(node, triple)| task.execution(node) * words[0] > triple[1]);
+    counts.accepted += 1;
+    counts.nodes += task.executions.len() as u64;
+    counts.segments += segments.len() as u64;
+    counts.work += task.work();
+    counts.heavy += heavy as u64;
+    counts.light += (segments.len() - heavy) as u64;
+    counts.dense += u64::from(is_dense);
+}
+
+#[test]
+fn files_of_random_tasks() {
+    let mut random = Random(0x1405_7B7E_F767_814F);
+    let [mut heavy, mut light, mut dense] = [0; 3];
+    for _ in 0..4_000 {
+        let cost = [0, 0, 1, random.below(256), 255][random.below(5) as usize];
+        let (mut file, mut expected) = (Vec::new(), Counts::default());
+        for _ in 0..random.below(9) {
+            let mut task = Task::random(&mut random);
+            task.cost = cost;
+            let record = task.record();
+            number(&mut file, record.len() as u64);
+            file.extend(record);
+            count(&mut expected, &task);
+        }
+        expected.answer.value = expected.records;
+        assert_eq!(building(&file, cost), expected);
+        heavy += expected.heavy;
+        light += expected.light;
+        dense += expected.dense;
+    }
+    assert!(heavy > 5_000, "only {heavy} segments were heavy");
+    assert!(light > 500, "only {light} segments were light");
+    assert!(dense > 300, "only {dense} tasks were dense");
 }

@@ -13,10 +13,10 @@ use Rattle.plans.specs.Calls.{unplanned, planned}
 use Rattle.plans.specs.Words.{wordsMax, written}
 use Rattle.plans.specs.Inner.Drawn.{Totalled}
 use Rattle.plans.specs.Inner.Table.{tablePlan}
-use Rattle.plans.proofs.Tests.{on-fits}
+use Rattle.plans.proofs.Tests.{on-fits, table-told}
 use Rattle.sheets.specs.Lines.{refusedLine}
 use Rattle.sheets.specs.Printed.{tableSheet, sheetCost}
-use Rattle.sheets.proofs.Printing.{wrote-same, refused-line, printable}
+use Rattle.sheets.proofs.Printing.{wrote-same, printable}
 use Rattle.sheets.proofs.put_table.Statement.{statement}
 use Rattle.sheets.proofs.put_table.Tie as tie
 
@@ -38,7 +38,7 @@ returns c =
     let n = r .before .before .before in
     let p = n .before .before .before .before in
     let answered = ap (λ (x : After (List ℕ)). x .answer) (plans p) in
-    wrote-same (ap refusedLine (r .before .told-by .ensures) ∙ refused-line zeros (table p) answered (n .if1 .taken)) (r .put-refusal .ensures)
+    wrote-same (ap refusedLine (r .before .told-by .ensures) ∙ table-told refusedLine tableSheet zeros (table p) answered (n .if1 .taken)) (r .put-refusal .ensures)
 
 slice-aggregate-plan-table : tie.Need-slice-aggregate-plan-table
 slice-aggregate-plan-table c = search needs

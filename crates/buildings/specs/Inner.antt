@@ -1,0 +1,3 @@
+pub mod Tally
+pub mod Sized
+pub mod PlanOf

@@ -1,0 +1,4 @@
+pub mod Task
+pub mod Counts
+pub mod Building
+pub mod Inner

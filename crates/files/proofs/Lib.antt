@@ -1,0 +1,3 @@
+pub mod Cases
+pub mod Walked
+pub mod Filed

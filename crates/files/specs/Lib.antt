@@ -1,0 +1,3 @@
+pub mod File
+pub mod Laid
+pub mod Inner
