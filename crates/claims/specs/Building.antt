@@ -49,7 +49,7 @@ buildingValue file v = v ≡ length (recordsOf file)
 abbrev pub Leaves : (file : List ℕ) (cost : ℕ) → After (List ℕ) → Type 0
 Leaves file cost a = (counts : Counts) × BuildingAllows file cost (record { answer = a .answer; counts = counts }) × (a .lent ≡ file)
 
--- the answer of planning a record alone, into words enough
+-- how a record counts, by the answer of planning it alone into words enough
 pub record Alone (bytes words : List ℕ) (cost : ℕ) : Type 0 where
   -- "nodes and all after them count accepted records only": of these, what is counted of the record's task
   pub accepted : (f : TaskTable → ℕ) → IsAccepted (planCall bytes words cost .answer) → ofAccepted f cost bytes ≡ f (taskOf bytes cost)
