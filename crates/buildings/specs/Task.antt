@@ -20,10 +20,11 @@ ofAccepted f cost bytes = onTask (λ _. 0) f bytes cost
 abbrev pub refusedBy : (k cost : ℕ) → List ℕ → ℕ
 refusedBy k cost bytes = onTask (λ r. one (eqb (r .number) k)) (λ _. 0) bytes cost
 
--- the "heavy and light segments" of a task
+-- "heavy and light segments": how many of a task's segments are heavy
 abbrev pub heavyIn : TaskTable → ℕ
 heavyIn t = heavies (t .period) (work t) (path t) (segmentCount t) (threadsIn t)
 
+-- "heavy and light segments": how many of them are light, the ones that are not heavy
 abbrev pub lightIn : TaskTable → ℕ
 lightIn t = sumTo (segmentCount t) (λ j. one (not (isHeavy (t .period) (work t) (path t) (threadsIn t j))))
 

@@ -23,10 +23,11 @@ noSums = record { accepted = 0; nodes = 0; segments = 0; work = 0; heavy = 0; li
 abbrev pub taskSums : TaskTable → Sums
 taskSums t = record { accepted = 1; nodes = t .count; segments = segmentCount t; work = work t; heavy = heavyIn t; light = lightIn t; dense = denseIn t }
 
--- a record that planning refuses by this number, and one that it accepts
+-- a record that planning refuses by this number
 abbrev pub refusedTally : (number : ℕ) → Tally
 refusedTally number = record { refusal = number; sums = noSums }
 
+-- a record that planning accepts as this task
 abbrev pub taskTally : TaskTable → Tally
 taskTally t = record { refusal = 0; sums = taskSums t }
 
@@ -50,7 +51,7 @@ plus a b = record {
 abbrev pub withNumber : (refused : List ℕ) (number : ℕ) → List ℕ
 withNumber refused number = pick (eqb number 0) refused (set refused number (at refused number + 1))
 
--- the sums over some records, and their counts by number
+-- the sums over some records
 unfoldable pub sumsOf : (records : List (List ℕ)) (cost : ℕ) → Sums
 sumsOf records cost = record {
   accepted = total (ofAccepted (λ t. 1) cost) records;
@@ -62,6 +63,7 @@ sumsOf records cost = record {
   dense = total (ofAccepted denseIn cost) records;
 }
 
+-- how many of some records are refused, by number
 unfoldable pub numbersOf : (records : List (List ℕ)) (cost : ℕ) → List ℕ
 numbersOf records cost = tab numbersMax (λ k. total (refusedBy k cost) records)
 
