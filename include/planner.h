@@ -1,13 +1,14 @@
-/* The planner's ten calls. A call returns for every content of what it is lent; a refusal changes nothing. The caller
- * sees to the memory, in each call:
- *   - A length is 64 bits on every machine. It counts bytes of a record, a text or a file, words of a plan, rows of a
- *     board, entries of a list.
+/* The planner's thirteen calls. A call returns for every content of what it is lent; a refusal changes nothing. The
+ * caller sees to the memory, in each call:
+ *   - A length is 64 bits on every machine. It counts bytes of a record, a text, a file or a plan record, words of a
+ *     plan, rows of a board, entries of a list.
  *   - Each pointer is not NULL and valid for its length.
  *   - The words, the rows, the lists and the memory that the answer is returned in are aligned to 8 bytes. Compilers for
- *     32-bit x86 align uint64_t to 4 unless told otherwise (gcc and clang: -malign-double). A record, a text or a file
- *     may begin at any byte, and so may the bytes for a record.
+ *     32-bit x86 align uint64_t to 4 unless told otherwise (gcc and clang: -malign-double). A record, a text, a file or
+ *     a plan record may begin at any byte, and so may the bytes for one that is written.
  *   - Nothing that is lent overlaps: record, words and board are apart, so are the two lists and the bytes, so are the
- *     given record or the text and the bytes, and the returned answer is apart from them.
+ *     given record, the text or the words and the bytes, so are record, plan record and words, and the returned answer is
+ *     apart from them.
  *   - No other thread uses what is lent meanwhile. */
 #ifndef PLANNER_H
 #define PLANNER_H
@@ -24,6 +25,9 @@
 /* The most bytes that a record has: into so many, every record can be written. */
 #define PLANNER_RECORD_BYTES 4361
 
+/* The most bytes that a plan record has: into so many, every plan can be written. */
+#define PLANNER_PLAN_BYTES 3476
+
 /* The rows of a board; a board of another length is refused by 17. */
 #define PLANNER_ROWS 16
 
@@ -35,18 +39,20 @@
 
 /* What a call answers. refusal 0: accepted, and value holds what the call returns. Otherwise refusal is the number of
  * the rule that was broken, value 0, and place where it was met: a byte of the record (for 1 the record's length), of
- * the text (for 22 also the text's length; for 4 and 5, which are none of the text's numbers, 0) or of the file, for 10
- * the smallest node that waits for itself, for 19 the length of the bytes (0 where two lists differ), and 0 for 11 to 17,
- * 20, 21, 26 and 27. ring (since version 2) is for 10 the set of nodes of one loop through that node, node k as bit k, from which none
- * can be left out; with every other answer it is 0.
- * Refusals: 1 the record ends too early; 2 a number's fourth byte has its top bit set; 3 the edition is neither 1 nor
- * 2; 4 id, 5 period, 6 node count, 7 execution (from 1 in edition 1, from 0 in edition 2) out of range; 8 a parent
- * count or parent out of range or order, in a text one given twice; 9 bytes follow the record; 10 a node waits for
- * itself, over others or not; 11 the path is longer than the period; 12 the id stands already; 13 no row is free; 14 no
- * task with this id stands; 15 no such number of cores; 16 too few words; 17 the board isn't sound; 18 a number isn't in
- * its shortest form; 19 two lists differ in length, or too few bytes; 20 with the task the verdict would be no; 21 all
- * executions are 0; 22 the text breaks the layout; 23 the text's count is above 62; 26 the cost is above 255; 27 the file
- * is too long. */
+ * the text (for 22 also the text's length; for 4 and 5, which are none of the text's numbers, 0), of the file or of the
+ * plan record, for 10 the smallest node that waits for itself, for 19 the length of the bytes (0 where two lists
+ * differ), for 24 also the word that holds a count (0 where the plan is of another task), for 25 the number of the
+ * plan's rule, and 0 for 11 to 17, 20, 21 and 26 to 28. ring (since version 2) is for 10 the set of nodes of one loop
+ * through that node, node k as bit k, from which none can be left out; with every other answer it is 0.
+ * Refusals: 1 the record ends too early; 2 a number's fourth byte, in a plan record its ninth, has its top bit set; 3
+ * the edition is neither 1 nor 2; 4 id, 5 period, 6 node count, 7 execution (from 1 in edition 1, from 0 in edition 2)
+ * out of range; 8 a parent count or parent out of range or order, in a text one given twice; 9 bytes follow the record;
+ * 10 a node waits for itself, over others or not; 11 the path is longer than the period; 12 the id stands already; 13 no
+ * row is free; 14 no task with this id stands; 15 no such number of cores; 16 too few words; 17 the board isn't sound;
+ * 18 a number isn't in its shortest form; 19 two lists differ in length, or too few bytes; 20 with the task the verdict
+ * would be no; 21 all executions are 0; 22 the text breaks the layout; 23 the text's count is above 62; 24 a plan's
+ * count of segments or nodes is 0 or above 64, or the plan is of another task; 25 a plan breaks a rule; 26 the cost is
+ * above 255; 27 the file is too long; 28 an id or a word of a plan is 2^63 or more. */
 struct planner_answer {
     uint64_t refusal;
     uint64_t place;
@@ -186,5 +192,46 @@ struct planner_answer planner_read_graph(const uint8_t *text, uint64_t text_leng
  * of the length (1 where the file ends inside it), or 1 at file_length (the record runs past it). Beside 1, 2 and 18 the
  * counts cover the records before that place. */
 struct planner_counts planner_building(const uint8_t *file, uint64_t file_length, uint64_t cost);
+
+/* A plan record is a plan on its way between two tools: numbers like a record's, but of up to nine bytes, shortest form:
+ * the task's id, Q, the segment count s and s times (threads, length, deadline numerator), the node count n and n times
+ * (offset numerator, deadline numerator, density), as planner_plan has them in its words. Nothing follows.
+ *
+ * Reads a plan record into words[0 .. 3 + 3s + 3n - 1] as planner_plan fills them; words past these keep their content.
+ * Whether it is a plan of any task is left to planner_judge: the counts are 1 .. 64, the other numbers any.
+ * value: the id. Refusals, in this order: 16 (fewer than PLANNER_WORDS words); as met from the left, each number read
+ * whole before its range is tried, 1 at plan_length, 2 (a ninth byte with its top bit set), 18 and 24 (a count) at the
+ * number's first byte, and 9. */
+struct planner_answer planner_read_plan(const uint8_t *plan, uint64_t plan_length,
+                                        uint64_t *words, uint64_t words_length);
+
+/* Writes the plan record of the plan in these words, under that id, into bytes[0 .. value - 1]; bytes past these keep
+ * their content. words is what planner_plan was lent, PLANNER_WORDS long: those past the plan's may hold anything. What
+ * is written is read back as the same id and words, and a plan record that was read is written again byte for byte. A
+ * buffer of PLANNER_PLAN_BYTES is never too short.
+ * value: the number of bytes written. Refusals, in this order: 16 (fewer than PLANNER_WORDS words); 24 at 1 (the segment
+ * count, words[1], is 0 or above 64) and at 2 (the node count, words[2]); 28 (the id, or a word that would be written, is
+ * 2^63 or more); 19 at bytes_length (too few bytes). */
+struct planner_answer planner_write_plan(const uint64_t *words, uint64_t words_length,
+                                         uint8_t *bytes, uint64_t bytes_length, uint64_t id);
+
+/* Judges another tool's plan for the task of a record, each step at that cost, as planner_plan takes it. Where it is
+ * accepted, its words are written as planner_read_plan does; else no word is. A plan of planner_plan for the same record
+ * and cost, written by planner_write_plan, is always accepted. The rules, with m, e and d the threads, length and
+ * deadline numerator of a segment, T the period, C the work:
+ *   1  Q is 1 .. 8,421,120;
+ *   2  the segments are the task's own, in number, threads and length;
+ *   3  the d of all segments sum to T x Q;
+ *   4  a node's deadline numerator is the sum of d over the segments it runs in (0 for a node with execution 0);
+ *   5  a node's offset is 0 without parents, else the greatest offset plus deadline among its parents;
+ *   6  no node has less than half its execution: execution x Q is at most twice its deadline numerator;
+ *   7  no segment is denser than twice C over T: m x e x Q x T is at most 2 x C x d;
+ *   8  a density is execution x Q x 1,000,000 over the deadline numerator, rounded up (0 for a deadline of 0).
+ * value: the id. Refusals, in this order: 26; those of the record, 1 to 9 and 18 as met from the left, 21, 10, 11; 16;
+ * those of the plan record, 1, 2, 18, 24 and 9 as met from the left; 24 at 0 (id or node count is not the task's); 25,
+ * the place is the number of the first broken rule. The answer does not tell in which of the two records a place is. */
+struct planner_answer planner_judge(const uint8_t *record, uint64_t record_length,
+                                    const uint8_t *plan, uint64_t plan_length,
+                                    uint64_t *words, uint64_t words_length, uint64_t cost);
 
 #endif

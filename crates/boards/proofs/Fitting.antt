@@ -13,9 +13,10 @@ use Rattle.plain.proofs.Sums.{sumTo-le}
 use Rattle.tables.specs.Limits.{idMax, countMax, densityMax}
 use Rattle.boards.specs.declared.Row.{Row}
 use Rattle.boards.specs.Row.{rowsMax, rowAt}
-use Rattle.boards.specs.Sound.{between, isBare, isDense, isNew}
+use Rattle.plain.specs.Tests.{between}
+use Rattle.boards.specs.Sound.{isBare, isDense, isNew}
 use Rattle.boards.specs.Inner.Halves.{densitiesFit, densitiesSound}
-use Rattle.boards.proofs.Tests.{both-true, between-true, allTo-true}
+use Rattle.plain.proofs.Tests.{both-true, between-true, allTo-true}
 
 -- one row, for itself
 fit-sum-le : (r : Row) → densitiesFit r ≡ true → r .sum ≤ countMax * densityMax

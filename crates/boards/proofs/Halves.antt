@@ -10,10 +10,11 @@ use Rattle.plain.specs.Pick.{pick}
 use Rattle.boards.specs.declared.Row.{Row}
 use Rattle.boards.specs.declared.Board.{Board}
 use Rattle.boards.specs.Row.{rowsMax, rowAt}
-use Rattle.boards.specs.Sound.{both, isUntimed, isSoundRow, allTo, isNew, isSound}
+use Rattle.plain.specs.Tests.{both, allTo}
+use Rattle.boards.specs.Sound.{isUntimed, isSoundRow, isNew, isSound}
 use Rattle.boards.specs.Inner.Halves.{densitiesFit, timesFit, densitiesSound, timesSound}
 use Rattle.boards.proofs.Held.{Held, sixteen}
-use Rattle.boards.proofs.Tests.{allTo-same}
+use Rattle.plain.proofs.Tests.{allTo-same}
 
 -- one row
 row-halves : (r : Row) → isSoundRow r ≡ both (densitiesFit r) (timesFit r)

@@ -1,4 +1,3 @@
-pub mod Tests
 pub mod Find
 pub mod Sound
 pub mod Fitting

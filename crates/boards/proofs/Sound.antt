@@ -16,10 +16,11 @@ use Rattle.tables.specs.Limits.{idMax, periodMax, countMax, runMax, overMax, de
 use Rattle.sets.specs.Member.{Member}
 use Rattle.boards.specs.declared.Row.{Row}
 use Rattle.boards.specs.Row.{freeRow, rowsMax, rowAt}
-use Rattle.boards.specs.Sound.{Standing, Sound, between, isBare, isUntimed, isFree, isDense, isTimed, isStanding, isSoundRow, isNew, isSound, allTo}
+use Rattle.plain.specs.Tests.{between, allTo}
+use Rattle.boards.specs.Sound.{Standing, Sound, isBare, isUntimed, isFree, isDense, isTimed, isStanding, isSoundRow, isNew, isSound}
 use Rattle.boards.specs.Verdict.{sumOf, largestOf}
 use Rattle.plain.proofs.Picks.{true-false, pick-case}
-use Rattle.boards.proofs.Tests.{both-true, true-both, between-true, true-between, allTo-true, true-allTo, allTo-same}
+use Rattle.plain.proofs.Tests.{both-true, true-both, between-true, true-between, allTo-true, true-allTo, allTo-same}
 use Rattle.boards.proofs.Figures.{max-le-sum}
 
 -- a free row

@@ -3,10 +3,11 @@ use mathlib.Core.Path.{_≡_}
 use mathlib.Core.Logic.{_⊎_}
 use mathlib.Core.Bool.{Bool, true, false}
 use mathlib.Core.List.{List}
-use Prim.Native.Nat.{ℕ, zero, suc, _*_, _≤_, _<_}
+use Prim.Native.Nat.{ℕ, _*_, _≤_, _<_}
 use lib.Dec.{eqb, leb}
 use lib.ListN.{length}
 use Rattle.plain.specs.Pick.{pick}
+use Rattle.plain.specs.Tests.{both, between, allTo}
 use Rattle.tables.specs.Limits.{idMax, periodMax, countMax, runMax, overMax, densityMax}
 use Rattle.boards.specs.declared.Row.{Row}
 use Rattle.boards.specs.Row.{freeRow, rowsMax, rowAt}
@@ -35,10 +36,6 @@ pub record Sound (rows : List Row) : Type 0 where
   pub each : (k : ℕ) → k < rowsMax → (rowAt rows k ≡ freeRow) ⊎ Standing (rowAt rows k)
   pub once : (i j : ℕ) → i < j → j < rowsMax → rowAt rows i .id ≡ rowAt rows j .id → rowAt rows i .id ≡ 0
 
--- both tests hold
-abbrev pub both : Bool → Bool → Bool
-both a b = pick a b false
-
 -- no task and no densities
 abbrev pub isBare : Row → Bool
 isBare r = both (eqb (r .id) 0) (both (eqb (r .nodes) 0) (both (eqb (r .sum) 0) (eqb (r .largest) 0)))
@@ -50,10 +47,6 @@ isUntimed r = both (eqb (r .longest) 0) (both (eqb (r .shortest) 0) (eqb (r .ove
 -- the row is all zeros
 abbrev pub isFree : Row → Bool
 isFree r = both (isBare r) (isUntimed r)
-
--- the number lies in lo..hi
-abbrev pub between : ℕ → ℕ → ℕ → Bool
-between lo x hi = both (leb lo x) (leb x hi)
 
 -- the ranges of a standing row's id, nodes and densities
 abbrev pub isDense : Row → Bool
@@ -74,11 +67,6 @@ isStanding r = both (isDense r) (isTimed r)
 -- "each is free or has .."
 unfoldable pub isSoundRow : Row → Bool
 isSoundRow r = pick (isFree r) true (isStanding r)
-
--- the test holds of each of the first n numbers
-unfoldable pub allTo : ℕ → (ℕ → Bool) → Bool
-allTo zero f = true
-allTo (suc n) f = both (allTo n f) (f n)
 
 -- "no id twice": id k is no earlier one; a free row's 0 doesn't count
 unfoldable pub isNew : (ids : ℕ → ℕ) → ℕ → Bool

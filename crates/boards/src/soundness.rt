@@ -8,7 +8,8 @@ ghost use mathlib.Core.Path.{_≡_};
 ghost use Prim.Native.Nat.{_<_};
 ghost use Rattle.plain.specs.At.{at};
 ghost use Rattle.boards.specs.Row.{rowsMax};
-ghost use Rattle.boards.specs.Sound.{isBare, isUntimed, between, isDense, isTimed, isNew};
+ghost use Rattle.plain.specs.Tests.{between};
+ghost use Rattle.boards.specs.Sound.{isBare, isUntimed, isDense, isTimed, isNew};
 ghost use Rattle.boards.specs.Inner.Halves.{densitiesFit, timesFit, densitiesSound, timesSound};
 
 // Limits of specs/: the greatest density in millionths, the greatest execution with its cost, and the greatest Q.

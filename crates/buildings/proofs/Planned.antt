@@ -11,7 +11,7 @@ use Rattle.tables.specs.declared.TaskTable.{TaskTable}
 use Rattle.tables.specs.Limits.{countMax}
 use Rattle.segments.proofs.Segments.{segments-le}
 use Rattle.shares.specs.Heavy.{isHeavy, heavies}
-use Rattle.shares.specs.Inner.Words.{threadsAt}
+use Rattle.shares.specs.Words.{threadsAt}
 use Rattle.shares.specs.Inner.Asked.{DealIn}
 use Rattle.plans.specs.declared.Planning.{Planning}
 use Rattle.plans.specs.Diagram.{finish, work, path, segmentCount, threadsIn}

@@ -17,7 +17,7 @@ use Rattle.boards.specs.Sound.{Sound}
 use Rattle.boards.specs.Verdict.{verdict}
 use Rattle.overheads.specs.ToEnd.{verdictToEnd, askedToEnd}
 use Rattle.boards.specs.Change.{askedBy, asked}
-use Rattle.boards.proofs.Tests.{not-held}
+use Rattle.plain.proofs.Tests.{not-held}
 use Rattle.boards.proofs.Cases.{Before, before}
 use Rattle.boards.proofs.Cases.Before.{unsound, outside, asks}
 use Rattle.planner.specs.Calls.{askCall, askToEndCall}

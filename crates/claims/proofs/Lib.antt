@@ -11,6 +11,8 @@ pub mod Write
 pub mod Mend
 pub mod Graph
 pub mod Building
+pub mod PlanRecord
+pub mod Judge
 pub mod Admit
 pub mod Diagram
 pub mod Print

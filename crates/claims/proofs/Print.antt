@@ -1,20 +1,20 @@
 -- What is printed is what planning says: both go by the cases of the record's task. And a text's sheet is its table's, with a period that its path fits.
-use mathlib.Core.Path.{_≡_, refl, ap, _∙_}
+use mathlib.Core.Path.{_≡_, refl, sym, ap, _∙_}
 use mathlib.Core.Bool.{Bool, true, false}
-use mathlib.Core.List.{List, [], _∷_, _++_}
+use mathlib.Core.List.{List, [], _∷_, _++_, append-nil}
 use Prim.Native.Nat.{ℕ, _+_, _≤_}
 use native.Mathlib.Omega.{arith}
 use lib.Dec.{ltb}
 use lib.ListN.{length, take, drop, replicate, length-take}
 use lib.Seq.{take-all}
-use borrow.Author.Tests.{eqb-false, lt-ltb, le-ltb}
+use borrow.Author.Tests.{eqb-false, eq-eqb, ne-eqb, lt-ltb, le-ltb}
 use Rattle.plain.specs.Pick.{pick}
 use Rattle.refusals.specs.Numbers.{loop, longPath, fewWords, badLayout}
 use Rattle.refusals.specs.declared.Refusal.{Refusal}
 use Rattle.refusals.specs.declared.Answer.{Answer}
 use Rattle.refusals.specs.declared.Outcome.{Outcome}
 use Rattle.refusals.specs.declared.Outcome.the-variants.{Accepted, Refused}
-use Rattle.refusals.specs.Refusal.{refusal, onOutcome}
+use Rattle.refusals.specs.Refusal.{refusal, refusalOf, onOutcome}
 use Rattle.refusals.specs.Answer.{refused}
 use Rattle.refusals.specs.After.{After}
 use Rattle.tables.specs.declared.TaskTable.{TaskTable}
@@ -42,7 +42,7 @@ use Rattle.texts.specs.Text.{bytes as text}
 use Rattle.texts.specs.Lines.{line}
 use Rattle.texts.specs.Wrote.{wrote}
 use Rattle.sheets.specs.Lines.{refusedLine}
-use Rattle.sheets.specs.Sheet.{sheetMax}
+use Rattle.sheets.specs.Sheet.{sheetText, sheetMax}
 use Rattle.sheets.specs.Printed.{headOf, tableSheet, sheetCost, sheetOf, printed}
 use Rattle.sheets.proofs.Sizes.{sheet-fits, refusal-fits}
 use Rattle.mendlines.proofs.Lines.{line-counts, line-refusal, line-fits}
@@ -51,8 +51,13 @@ use Rattle.buildingsheets.specs.Sheet.{buildingIn}
 use Rattle.buildingsheets.proofs.Lines.{text-whole, text-ended, building-fits}
 use Rattle.graphsheets.proofs.Relaxed.{ready, path-low, path-high}
 use Rattle.graphsheets.proofs.Sheets.{sheet-cut, whole-short, whole-commented, sheet-refused, sheet-read, read-range}
-use Rattle.claims.specs.Rule.{IsAccepted}
-use Rattle.claims.specs.Print.{sheetGraph, Tabled, OfPrinting}
+use Rattle.planchecks.specs.Pair.{onPair}
+use Rattle.planchecks.specs.Sheet.{judgedPair, pairText, checkSheet}
+use Rattle.planchecks.proofs.Pairs.{second-refused, pair-refused, pair-first}
+use Rattle.planchecks.proofs.Filed.{pair-followed, pair-whole}
+use Rattle.planchecks.proofs.Fits.{check-fits}
+use Rattle.claims.specs.Rule.{IsAccepted, IsRefused}
+use Rattle.claims.specs.Print.{sheetGraph, Tabled, pairOf, OfPrinting}
 use Rattle.claims.proofs.Record.{unread-some, one-smallest}
 use Rattle.claims.proofs.Diagram.{loop-free}
 use Rattle.claims.proofs.Plan.{PlanCase, planning}
@@ -171,6 +176,21 @@ graph-fits text = by (cutOff text) (graphIn text .outcome) refl
     by false (Refused r) e = refusal-fits r
     by false Accepted e = on-table-fits (costed (relaxed (graphIn text .table)) sheetCost) (read-range text e .count-high)
 
+-- what plancheck prints of two records that were judged, and of an input that it reads whole
+check-line : (bytes plan : List ℕ) → IsRefused (judgedPair bytes plan .answer) → pairText bytes plan ≡ refusedLine (refusalOf (judgedPair bytes plan .answer))
+check-line bytes plan n = rw (ne-eqb (judgedPair bytes plan .answer .refusal) 0 n)
+
+check-plan : (bytes plan : List ℕ) → IsAccepted (judgedPair bytes plan .answer) → pairText bytes plan ≡ sheetText (headOf (taskOf bytes 0)) (judgedPair bytes plan .lent)
+check-plan bytes plan z = rw (eq-eqb (judgedPair bytes plan .answer .refusal) 0 z)
+
+check-whole : (input : List ℕ) → length input ≤ 8192 → checkSheet input ≡ onPair refusedLine pairText input
+check-whole input h = ap (onPair refusedLine pairText) (take-all 8192 input h)
+
+check-pair : (bytes plan : List ℕ) → length (pairOf bytes plan) ≤ 8192 → checkSheet (pairOf bytes plan) ≡ pairText bytes plan
+check-pair bytes plan h =
+    let whole = append-nil (pairOf bytes plan) in
+    check-whole (pairOf bytes plan) h ∙ ap (onPair refusedLine pairText) (sym whole) ∙ pair-whole refusedLine pairText bytes plan [] (omega (arith, ap (length {A = ℕ}) whole)) refl
+
 -- the promises
 pub of-printing : OfPrinting
 of-printing = record {
@@ -193,4 +213,11 @@ of-printing = record {
   building-whole = text-whole;
   building-ended = text-ended;
   building-fits = λ file. building-fits (buildingIn file);
+  check-refusal = λ bytes plan h n. check-pair bytes plan h ∙ check-line bytes plan n;
+  check-sheet = λ bytes plan h z. check-pair bytes plan h ∙ check-plan bytes plan z;
+  check-first = λ input r h e. check-whole input h ∙ pair-refused refusedLine pairText input e;
+  check-second = λ input size begin r h e f. check-whole input h ∙ pair-first refusedLine pairText input e ∙ second-refused refusedLine pairText input begin size f;
+  check-follow = λ bytes plan rest some h. check-whole (pairOf bytes plan ++ rest) h ∙ pair-followed refusedLine pairText bytes plan rest (omega arith) some;
+  check-front = λ input. ap (onPair refusedLine pairText) (sym (take-all 8192 (take 8192 input) (omega (arith, length-take 8192 input))));
+  check-fits = check-fits;
 }

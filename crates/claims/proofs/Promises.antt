@@ -10,6 +10,8 @@ use Rattle.claims.proofs.Write.{of-writing}
 use Rattle.claims.proofs.Mend.{of-mending}
 use Rattle.claims.proofs.Graph.{of-graphs}
 use Rattle.claims.proofs.Building.{of-buildings}
+use Rattle.claims.proofs.PlanRecord.{of-plan-records}
+use Rattle.claims.proofs.Judge.{of-judging}
 use Rattle.claims.proofs.Print.{of-printing}
 use Rattle.claims.proofs.Diagram.{tables-timed}
 use Rattle.claims.proofs.Cost.{of-cost}
@@ -32,6 +34,8 @@ promises = record {
   mending = of-mending;
   graphing = of-graphs;
   building = of-buildings;
+  plan-records = of-plan-records;
+  judging = of-judging;
   printing = of-printing;
   tables-timed = tables-timed;
   cost = of-cost;

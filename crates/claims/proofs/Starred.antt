@@ -11,7 +11,7 @@ use Rattle.sets.specs.Without.{withoutMember}
 use Rattle.tables.specs.Runs.{allZero}
 use Rattle.numbers.specs.Number.{number, before}
 use Rattle.records.specs.Step.{andThen}
-use Rattle.records.specs.Ranged.{whole, ranged}
+use Rattle.records.specs.Ranged.{wholeIn, rangedIn}
 use Rattle.records.specs.Parents.{parents, parentSet}
 use Rattle.records.specs.Nodes.{nothingFollows, nodes}
 use Rattle.records.specs.Reading.{readingOf}
@@ -32,7 +32,8 @@ use Rattle.plans.specs.Shares.{numeratorOf, deadline, shortest, offset, density
 use Rattle.plans.specs.Words.{frontWords, nodeWords}
 use Rattle.plans.specs.Calls.{beforeReading, onTable, onTask, planCall}
 use Rattle.boards.specs.Find.{placeOf}
-use Rattle.boards.specs.Sound.{isSoundRow, allTo, isNew, isSound}
+use Rattle.plain.specs.Tests.{allTo}
+use Rattle.boards.specs.Sound.{isSoundRow, isNew, isSound}
 use Rattle.boards.specs.Verdict.{sumOf, largestOf}
 use Rattle.boards.specs.Change.{placed, beforeAsking, askedBy}
 use Rattle.admissions.specs.Admission.{entered, noting}
@@ -46,6 +47,6 @@ use Rattle.claims.specs.Starred.AllCome.{done, _also_}
 
 -- every line of the list
 pub all-come : Starred
-unfolding starred kindsTo afterCall afterCalls sheetText linesTo line field decimal digits noting entered placed askedBy beforeAsking isSound isSoundRow isNew allTo sumOf largestOf placeOf planCall beforeReading onTask onTable frontWords nodeWords numeratorOf deadline shortest offset density share deal numerator millionths smaller smallestTo triples isHeavy heavies heavyWork lightLength segments lengthOf cut next nextTo running runningIn runs threads begins ends endsAfter workOf longestOf pathOf loops some reach stages stage union inside smallest unlessNeeded ringAfter withoutMember readingOf nodes nothingFollows allZero parentSet parents andThen ranged whole number before tab greatest setOf sizeTo bit sumTo maxTo upTo
+unfolding starred kindsTo afterCall afterCalls sheetText linesTo line field decimal digits noting entered placed askedBy beforeAsking isSound isSoundRow isNew allTo sumOf largestOf placeOf planCall beforeReading onTask onTable frontWords nodeWords numeratorOf deadline shortest offset density share deal numerator millionths smaller smallestTo triples isHeavy heavies heavyWork lightLength segments lengthOf cut next nextTo running runningIn runs threads begins ends endsAfter workOf longestOf pathOf loops some reach stages stage union inside smallest unlessNeeded ringAfter withoutMember readingOf nodes nothingFollows allZero parentSet parents andThen rangedIn wholeIn number before tab greatest setOf sizeTo bit sumTo maxTo upTo
 all-come =
     refl also refl also refl also refl also refl also refl also refl also refl also refl also refl also refl also refl also refl also refl also refl also refl also refl also refl also refl also refl also refl also refl also refl also refl also refl also refl also done

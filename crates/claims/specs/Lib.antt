@@ -10,6 +10,8 @@ pub mod Write
 pub mod Mend
 pub mod Graph
 pub mod Building
+pub mod PlanRecord
+pub mod Judge
 pub mod ToEnd
 pub mod Admit
 pub mod Print

@@ -1,8 +1,8 @@
--- All that is promised of what `plansheet`, `graphsheet` and `buildingsheet` print, and of the line that `mend` prints on standard error.
+-- All that is promised of what `plansheet`, `graphsheet`, `buildingsheet` and `plancheck` print, and of the line that `mend` prints on standard error.
 use mathlib.Core.Path.{_≡_}
 use mathlib.Core.Bool.{true, false}
 use mathlib.Core.List.{List, [], _∷_, _++_}
-use Prim.Native.Nat.{ℕ, _≤_, _<_}
+use Prim.Native.Nat.{ℕ, _+_, _≤_, _<_}
 use lib.ListN.{length, take, drop}
 use Rattle.refusals.specs.declared.Refusal.{Refusal}
 use Rattle.refusals.specs.declared.Outcome.the-variants.{Accepted, Refused}
@@ -17,14 +17,18 @@ use Rattle.plans.specs.Calls.{taskOf, planCall}
 use Rattle.texts.specs.Text.{bytes as letters}
 use Rattle.texts.specs.Lines.{line}
 use Rattle.sheets.specs.Lines.{refusedLine}
-use Rattle.sheets.specs.Sheet.{sheetMax}
-use Rattle.sheets.specs.Printed.{tableSheet, sheetOf, printed}
+use Rattle.sheets.specs.Sheet.{sheetText, sheetMax}
+use Rattle.sheets.specs.Printed.{headOf, tableSheet, sheetOf, printed}
 use Rattle.menders.specs.declared.Mending.{Mending}
 use Rattle.mendlines.specs.Line.{countsLine, mendLine}
 use Rattle.graphsheets.specs.Sheet.{relaxed, graphSheet}
 use Rattle.buildings.specs.declared.Building.{Building}
 use Rattle.buildings.specs.Building.{buildingCall}
 use Rattle.buildingsheets.specs.Sheet.{countsText, buildingText, buildingSheet}
+use Rattle.records.specs.declared.Step.the-variants as step
+use Rattle.files.specs.File.{recordAt}
+use Rattle.files.specs.Laid.{fileOf}
+use Rattle.planchecks.specs.Sheet.{judgedPair, checkSheet}
 use Rattle.claims.specs.Rule.{IsAccepted, IsRefused}
 
 -- a text as graphsheet reads it, with id 1 and the largest period
@@ -36,6 +40,10 @@ pub record Tabled (text : List ℕ) (t : TaskTable) : Type 0 where
   pub short : length text ≤ 65536
   pub read : sheetGraph text .outcome ≡ Accepted
   pub table : sheetGraph text .table ≡ t
+
+-- a task record and a plan record, each with its length before it
+abbrev pub pairOf : (bytes plan : List ℕ) → List ℕ
+pairOf bytes plan = fileOf (bytes ∷ plan ∷ [])
 
 -- with words enough for a plan lent; "the programs use 0" as the cost
 pub record OfPrinting : Type 0 where
@@ -71,3 +79,17 @@ pub record OfPrinting : Type 0 where
       buildingText b ≡ countsText (b .counts) ++ line ((letters "ended ", b .answer .refusal) ∷ (letters "at ", b .answer .place) ∷ [])
   -- it fits the buffer, too
   pub building-fits : (file : List ℕ) → length (buildingSheet file) ≤ sheetMax
+  -- plancheck, of a task record and a plan record, "each preceded by its length as in e)": the line of the judge's refusal, or the sheet of the plan's words
+  pub check-refusal : (bytes plan : List ℕ) → length (pairOf bytes plan) ≤ 8192 → IsRefused (judgedPair bytes plan .answer) →
+      checkSheet (pairOf bytes plan) ≡ refusedLine (refusalOf (judgedPair bytes plan .answer))
+  pub check-sheet : (bytes plan : List ℕ) → length (pairOf bytes plan) ≤ 8192 → IsAccepted (judgedPair bytes plan .answer) →
+      checkSheet (pairOf bytes plan) ≡ sheetText (headOf (taskOf bytes 0)) (judgedPair bytes plan .lent)
+  -- "a damaged length, or a record that runs past the input, is refused as in e)", of the first record and of the second
+  pub check-first : (input : List ℕ) (r : Refusal) → length input ≤ 8192 → recordAt input 0 ≡ step.Refused r → checkSheet input ≡ refusedLine r
+  pub check-second : (input : List ℕ) (size begin : ℕ) (r : Refusal) → length input ≤ 8192 → recordAt input 0 ≡ step.Read size begin → recordAt input (begin + size) ≡ step.Refused r →
+      checkSheet input ≡ refusedLine r
+  -- "bytes after the second record are 9 at the first of them"
+  pub check-follow : (bytes plan rest : List ℕ) → 0 < length rest → length (pairOf bytes plan ++ rest) ≤ 8192 → checkSheet (pairOf bytes plan ++ rest) ≡ refusedLine (told 9 (length (pairOf bytes plan)))
+  -- "It reads at most its first 8,192 bytes"; it fits the buffer, too
+  pub check-front : (input : List ℕ) → checkSheet input ≡ checkSheet (take 8192 input)
+  pub check-fits : (input : List ℕ) → length (checkSheet input) ≤ sheetMax

@@ -10,6 +10,8 @@ use Rattle.claims.specs.Write.{OfWriting}
 use Rattle.claims.specs.Mend.{OfMending}
 use Rattle.claims.specs.Graph.{OfGraphs}
 use Rattle.claims.specs.Building.{OfBuildings}
+use Rattle.claims.specs.PlanRecord.{OfPlanRecords}
+use Rattle.claims.specs.Judge.{OfJudging}
 use Rattle.claims.specs.Print.{OfPrinting}
 use Rattle.claims.specs.Diagram.{TablesTimed}
 use Rattle.claims.specs.Cost.{OfCost}
@@ -32,6 +34,8 @@ pub record Promises : Type 0 where
   pub mending : OfMending
   pub graphing : OfGraphs
   pub building : OfBuildings
+  pub plan-records : OfPlanRecords
+  pub judging : OfJudging
   pub printing : OfPrinting
   -- every loop-free table's starts, cuts and offsets are those of document 01
   pub tables-timed : TablesTimed

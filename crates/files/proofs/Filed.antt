@@ -6,6 +6,7 @@ use native.Mathlib.Omega.{arith}
 use lib.ListN.{length, take, drop, length-append, length-take, length-drop}
 use lib.Seq.{take-add, drop-drop, getD-drop, take-append-seam, drop-append-seam}
 use Rattle.numbers.specs.Number.{recordMore}
+use Rattle.numbers.specs.Form.{Whole}
 use Rattle.numbers.specs.Shortest.{Bytes, shortest}
 use Rattle.numbers.proofs.Shortest.{shortest-whole, form-shortest}
 use Rattle.files.specs.File.{partOf}
@@ -13,7 +14,7 @@ use Rattle.files.specs.Laid.{fileOf, Laid}
 use Rattle.files.specs.Laid.Laid.{none, more}
 
 -- a record with its length before it
-abbrev lengthed : List ℕ → List ℕ
+abbrev pub lengthed : List ℕ → List ℕ
 lengthed bytes = shortest recordMore (length bytes) ++ bytes
 
 -- a record more at the end
@@ -36,10 +37,17 @@ laid-filed file b (more {records} {place} {size} {n} l w h) =
     ∙ ap (λ (k : ℕ). fileOf records ++ (shortest recordMore k ++ part)) long
     ∙ sym (file-more records part)
 
--- a record that stands at a place, with its length before it, lies there
-one-laid : (file bytes rest : List ℕ) {before : List (List ℕ)} {at : ℕ} → Laid file before at → drop at file ≡ lengthed bytes ++ rest → at ≤ length file → length file < 128 ^ suc recordMore →
-    (let next = at + length (lengthed bytes) in Laid file (before ++ bytes ∷ []) next × (drop next file ≡ rest) × (next ≤ length file))
-one-laid file bytes rest {before} {at} l e i h =
+-- a record with its length before it stands whole at its place, and what is behind it follows
+pub record Stood (file bytes rest : List ℕ) (at n : ℕ) : Type 0 where
+  pub whole : Whole recordMore (drop at file) (length bytes) n
+  pub room : at + n + length bytes ≤ length file
+  pub part : partOf file (at + n) (length bytes) ≡ bytes
+  pub next : drop (at + n + length bytes) file ≡ rest
+  pub size : n + length bytes ≡ length (lengthed bytes)
+
+pub one-stands : (file bytes rest : List ℕ) (at : ℕ) → drop at file ≡ lengthed bytes ++ rest → at ≤ length file → length file < 128 ^ suc recordMore →
+    Stood file bytes rest at (length (shortest recordMore (length bytes)))
+one-stands file bytes rest at e i h =
     let n = length (shortest recordMore (length bytes)) in
     let size = length-append (shortest recordMore (length bytes)) bytes in
     let there : drop at file ≡ shortest recordMore (length bytes) ++ (bytes ++ rest) = e ∙ append-assoc (shortest recordMore (length bytes)) bytes rest in
@@ -47,12 +55,22 @@ one-laid file bytes rest {before} {at} l e i h =
     let room : at + n + length bytes ≤ length file = omega (arith, length-drop at file) in
     let w = shortest-whole recordMore (length bytes) (bytes ++ rest) (omega arith) in
     let past : drop (at + n) file ≡ bytes ++ rest = sym (drop-drop n at file) ∙ ap (drop n) there ∙ drop-append-seam (shortest recordMore (length bytes)) (bytes ++ rest) in
-    let part : partOf file (at + n) (length bytes) ≡ bytes = ap (take (length bytes)) past ∙ take-append-seam bytes rest in
-    let q : at + n + length bytes ≡ at + length (lengthed bytes) = omega arith in (
-      rw (← q) (rw part at (more l (rw (← there) at w) room)),
-      sym (drop-drop (length (lengthed bytes)) at file) ∙ ap (drop (length (lengthed bytes))) e ∙ drop-append-seam (lengthed bytes) rest,
-      omega arith,
-    )
+    record {
+      whole = rw (← there) at w;
+      room = room;
+      part = ap (take (length bytes)) past ∙ take-append-seam bytes rest;
+      next = sym (drop-drop (length bytes) (at + n) file) ∙ ap (drop (length bytes)) past ∙ drop-append-seam bytes rest;
+      size = sym size;
+    }
+
+-- so it lies there
+one-laid : (file bytes rest : List ℕ) {before : List (List ℕ)} {at : ℕ} → Laid file before at → drop at file ≡ lengthed bytes ++ rest → at ≤ length file → length file < 128 ^ suc recordMore →
+    (let next = at + length (lengthed bytes) in Laid file (before ++ bytes ∷ []) next × (drop next file ≡ rest) × (next ≤ length file))
+one-laid file bytes rest {before} {at} l e i h =
+    let n = length (shortest recordMore (length bytes)) in
+    let s = one-stands file bytes rest at e i h in
+    let q : at + n + length bytes ≡ at + length (lengthed bytes) = omega (arith, s .size) in
+    rw (← q) (rw (s .part) at (more l (s .whole) (s .room)), s .next, s .room)
 
 -- and so do all of them, one behind the other
 pub filed-laid : (file rest : List ℕ) (records : List (List ℕ)) {before : List (List ℕ)} {at : ℕ} → Laid file before at → drop at file ≡ fileOf records ++ rest →

@@ -22,3 +22,7 @@ number (suc more) (b ∷ s) = pick (ltb b 128) (Value b 1) (before b (number mor
 -- "A number is 1 to 4 bytes": at most three after the first
 abbrev pub recordMore : ℕ
 recordMore = 3
+
+-- "values of up to nine groups here": a plan record's, at most eight after the first
+abbrev pub planMore : ℕ
+planMore = 8

@@ -1,6 +1,6 @@
 -- A number as it is written.
 use Prim.Native.Nat.{ℕ, zero, suc, _+_, _/_, _%_, _<_}
-use mathlib.Core.List.{List, [], _∷_}
+use mathlib.Core.List.{List, [], _∷_, _++_}
 use lib.Dec.{ltb}
 use Rattle.plain.specs.At.{at}
 use Rattle.plain.specs.Pick.{pick}
@@ -14,3 +14,8 @@ Bytes s = (k : ℕ) → at s k < 256
 unfoldable pub shortest : (more v : ℕ) → List ℕ
 shortest zero v = v ∷ []
 shortest (suc more) v = pick (ltb v 128) (v ∷ []) ((128 + v % 128) ∷ shortest more (v / 128))
+
+-- "Only the shortest form is allowed": numbers as they are written, one after the other
+unfoldable pub allShortest : (more : ℕ) → List ℕ → List ℕ
+allShortest more [] = []
+allShortest more (v ∷ vs) = shortest more v ++ allShortest more vs

@@ -10,6 +10,9 @@ use Rattle.menders.specs.Mending.{Mended, mendCall}
 use Rattle.graphs.specs.Record.{graphCall}
 use Rattle.buildings.specs.declared.Building.{Building}
 use Rattle.buildings.specs.Building.{buildingCall}
+use Rattle.planreaders.specs.Reading.{readPlanCall}
+use Rattle.planwriters.specs.Writing.{writePlanCall}
+use Rattle.judges.specs.Judging.{judgeCall}
 use Rattle.planner.specs.Calls.{Lent, noteCall, admitCall, withdrawCall, askCall, askToEndCall}
 
 -- planning: its answer, and the words after it
@@ -51,3 +54,15 @@ GraphAllows text bytes id period after = after ≡ graphCall text bytes id perio
 -- walking a building's file: its answer, and the counts; the file is lent to be read
 abbrev pub BuildingAllows : (file : List ℕ) (cost : ℕ) → Building → Type 0
 BuildingAllows file cost building = building ≡ buildingCall file cost
+
+-- reading a plan record: its answer, and the words after it
+abbrev pub ReadPlanAllows : (plan words : List ℕ) → After (List ℕ) → Type 0
+ReadPlanAllows plan words after = after ≡ readPlanCall plan words
+
+-- writing a plan record: its answer, and the bytes after it
+abbrev pub WritePlanAllows : (words bytes : List ℕ) (id : ℕ) → After (List ℕ) → Type 0
+WritePlanAllows words bytes id after = after ≡ writePlanCall words bytes id
+
+-- judging a plan: its answer, and the words after it
+abbrev pub JudgeAllows : (bytes plan words : List ℕ) (cost : ℕ) → After (List ℕ) → Type 0
+JudgeAllows bytes plan words cost after = after ≡ judgeCall bytes plan words cost

@@ -11,7 +11,7 @@ ghost use Prim.Native.Nat.{_<_};
 ghost use lib.ListN.{length};
 ghost use Rattle.boards.specs.Row.{rowsMax};
 ghost use Rattle.boards.specs.Change.{changed};
-ghost use Rattle.planner.specs.Allows.{PlanAllows, NoteAllows, AdmitAllows, WithdrawAllows, AskAllows, AskToEndAllows, WriteAllows, MendAllows, GraphAllows, BuildingAllows};
+ghost use Rattle.planner.specs.Allows.{PlanAllows, NoteAllows, AdmitAllows, WithdrawAllows, AskAllows, AskToEndAllows, WriteAllows, MendAllows, GraphAllows, BuildingAllows, ReadPlanAllows, WritePlanAllows, JudgeAllows};
 
 // The lent rows, by value.
 fn rows_of(board: &[Row]) -> Board
@@ -151,4 +151,29 @@ pub extern "C" fn planner_building(file: &[u8], cost: u64) -> Building
     ensures { λ r. ⌜ BuildingAllows (now (file .entry)) cost r ⌝ }
 {
     buildings::count_building(file, cost)
+}
+
+// Reads a plan record into the words; the value is its id.
+#[no_mangle]
+pub extern "C" fn planner_read_plan(plan: &[u8], words: &mut [u64]) -> Answer
+    ensures { λ r. ⌜ ReadPlanAllows (now (plan .entry)) (now (words .entry)) (record { answer = r; lent = now (words .exit) }) ⌝ }
+{
+    planreaders::read_plan(plan, words)
+}
+
+// Writes a plan's words as a plan record with an id; the value is the number of bytes.
+#[no_mangle]
+pub extern "C" fn planner_write_plan(words: &[u64], bytes: &mut [u8], id: u64) -> Answer
+    ensures { λ r. ⌜ WritePlanAllows (now (words .entry)) (now (bytes .entry)) id (record { answer = r; lent = now (bytes .exit) }) ⌝ }
+{
+    planwriters::write_plan(words, bytes, id)
+}
+
+// Judges a supplier's plan record for a task record, each step with the cost; the value is the id, and the plan's words are written where it is accepted.
+#[no_mangle]
+pub extern "C" fn planner_judge(bytes: &[u8], plan: &[u8], words: &mut [u64], cost: u64) -> Answer
+    ensures { λ r. ⌜ JudgeAllows (now (bytes .entry)) (now (plan .entry)) (now (words .entry)) cost (record { answer = r; lent = now (words .exit) }) ⌝ }
+{
+    let judging = judges::judge(bytes, plan, words, cost);
+    judging.answer
 }

@@ -17,7 +17,7 @@ use Rattle.segments.proofs.Running.{threads-word}
 use Rattle.diagrams.proofs.Times.{times-are-cuts}
 use Rattle.shares.specs.Inner.Asked.{DealIn}
 use Rattle.shares.specs.Deal.{deal}
-use Rattle.shares.specs.Inner.Words.{threadsAt, lengthAt}
+use Rattle.shares.specs.Words.{threadsAt, lengthAt}
 use Rattle.shares.proofs.Deals.{deal-same, segmented-same}
 use Rattle.plans.specs.Diagram.{start, finish, work, path, segmentCount, threadsIn, lengthIn}
 use Rattle.plans.specs.Shares.{dealOf}

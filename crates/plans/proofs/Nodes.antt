@@ -1,15 +1,15 @@
 -- The nodes' part of a plan: the front of the words holds the table's segments, so D at the cuts of a node's start and finish are its offset and
 -- its end in stretched time; and the part that is filled stands behind the front in the whole.
 use mathlib.Core.Path.{_≡_, refl, sym, ap, _∙_}
-use mathlib.Core.List.{List, [], _∷_, _++_, append-assoc, append-nil}
+use mathlib.Core.List.{List, [], _∷_, _++_, append-assoc}
 use Prim.Native.Nat.{ℕ, _+_, _-_, _*_, _≤_, _<_}
 use native.Mathlib.Omega.{arith}
 use lib.ListN.{length, take, drop, take-append-drop}
-use lib.Seq.{drop-drop, drop-length, getD-take}
+use lib.Seq.{drop-drop, getD-take}
 use borrow.Rule.Slice.PartMut.{putMid}
 use Rattle.plain.specs.At.{at}
 use Rattle.plain.specs.Sums.{sumTo}
-use Rattle.plain.proofs.Lists.{part-from}
+use Rattle.plain.proofs.Lists.{part-from, put-from}
 use Rattle.plain.proofs.Sums.{sum-same}
 use Rattle.tables.specs.declared.TaskTable.{TaskTable}
 use Rattle.tables.specs.Limits.{countMax}
@@ -20,7 +20,7 @@ use Rattle.diagrams.proofs.Spans.{by-start, by-finish}
 use Rattle.shares.specs.Inner.Asked.{SumsIn, NodesIn, numeratorMax}
 use Rattle.shares.specs.Density.{millionths}
 use Rattle.shares.specs.Triples.{triples}
-use Rattle.shares.specs.Inner.Words.{numeratorAt}
+use Rattle.shares.specs.Words.{numeratorAt}
 use Rattle.shares.specs.Inner.Spans.{offsetBy, spanBy}
 use Rattle.shares.proofs.Bounds.{over-high, whole-high}
 use Rattle.shares.proofs.Holding.{HoldsSegments, numerators-are}
@@ -120,8 +120,5 @@ module _ {t : TaskTable} {n : ℕ} {f z X w : List ℕ} (d : NodesOf t n f z X w
   pub whole-plan : {xs ys : List ℕ} → xs ≡ nodeWords t → (let b = 3 + 3 * at w 1 in ys ≡ xs ++ drop (3 * n) (take (length w - b) (drop b w))) → (let b = 3 + 3 * at w 1 in putMid b (length w - b) w ys ≡ written t w)
   whole-plan {xs} {ys} q e =
       let b = 3 + 3 * at w 1 in
-      back b w ys (omega (arith, room))
+      put-from b w ys (omega (arith, room))
       ∙ rw (e, q, d .count, part-from b w, drop-drop (3 * t .count) b w, segments-read, d .front) (sym (append-assoc (frontWords t) (nodeWords t) (drop (wordCount (segmentCount t) (t .count)) w)))
-    where
-      back : (a : ℕ) (s y : List ℕ) → a ≤ length s → putMid a (length s - a) s y ≡ take a s ++ y
-      back a s y l = let q : a + (length s - a) ≡ length s = omega arith in rw (drop-drop (length s - a) a s, q, drop-length, append-nil)

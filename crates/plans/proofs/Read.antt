@@ -9,7 +9,7 @@ use Rattle.plain.specs.At.{at}
 use Rattle.tables.specs.declared.TaskTable.{TaskTable}
 use Rattle.segments.proofs.Segments.{segments-le}
 use Rattle.shares.proofs.Holding.{HoldsSegments}
-use Rattle.shares.proofs.Triples.{length-triples, second-of, third-of, triples-hold}
+use Rattle.shares.proofs.Triples.{length-triples, first-of, second-of, third-of, triples-hold}
 use Rattle.plans.specs.Diagram.{finish, segmentCount, threadsIn, lengthIn}
 use Rattle.plans.specs.Shares.{over, numeratorOf, deadline, offset, density}
 use Rattle.plans.specs.Words.{wordCount, wordsMax, frontWords, nodeWords, written}
@@ -60,7 +60,11 @@ module _ (t : TaskTable) (words : List ℕ) where
       ∙ ap (at (frontWords t ++ nodeWords t)) e
       ∙ getD-append-add (frontWords t) (nodeWords t) k 0
 
-  -- node v's deadline and density
+  -- node v's offset, deadline and density
+  pub at-offset : (v : ℕ) → v < t .count → at (written t words) (3 + 3 * segmentCount t + 3 * v) ≡ offset t v
+  unfolding nodeWords
+  at-offset v l = at-node (3 * v) (omega arith) ∙ first-of (offset t) (deadline t) (density t) (t .count) v l
+
   pub at-deadline : (v : ℕ) → v < t .count → at (written t words) (3 + 3 * segmentCount t + (3 * v + 1)) ≡ deadline t v
   unfolding nodeWords
   at-deadline v l = at-node (3 * v + 1) (omega arith) ∙ second-of (offset t) (deadline t) (density t) (t .count) v l

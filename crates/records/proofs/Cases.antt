@@ -3,29 +3,25 @@ use Prim.Native.Nat.{ℕ, zero, suc, _+_, _-_, _^_, _≤_, _<_}
 use mathlib.Core.Path.{_≡_, refl, sym, ap, _∙_}
 use mathlib.Core.Logic.{_⊎_, ⊎-elim}
 use mathlib.Core.Bool.{true, false, and-false}
-use mathlib.Core.List.{List, [], _∷_}
+use mathlib.Core.List.{List}
 use native.Mathlib.Omega.{arith}
 use lib.ListN.{length, take, drop}
 use borrow.Author.Tests.{le-leb, lt-leb, le-ltb, lt-ltb}
-use types.Run.{OneOf}
-use denote.Enum.Declared.{tagOf}
 use Rattle.refusals.specs.declared.Refusal.{Refusal}
 use Rattle.refusals.specs.Numbers.{badExecution, badParent, bytesFollow, noneRuns}
 use Rattle.tables.specs.declared.TaskTable.{TaskTable}
 use Rattle.tables.specs.Limits.{executionMax, leastExecution}
 use Rattle.tables.specs.Runs.{allZero}
-use Rattle.numbers.proofs.Number.{the-type}
 use Rattle.plain.proofs.Lists.{part-from}
 use Rattle.numbers.specs.declared.Number.{Number}
-use Rattle.numbers.specs.declared.Number.the-variants.{Value, Ended, TooLong, NotShortest}
-use Rattle.numbers.specs.Number.{number, recordMore}
+use Rattle.numbers.specs.Number.{number}
 use Rattle.records.specs.declared.Step.{Step}
 use Rattle.records.specs.declared.Step.the-variants.{Read, Refused}
 use Rattle.refusals.specs.Refusal.{refusal}
 use Rattle.records.specs.Step.{andThen}
 use Rattle.records.specs.declared.Two.{Two}
 use Rattle.records.specs.Inner.Two.{twoOf}
-use Rattle.records.specs.Ranged.{stepOf, whole, ranged}
+use Rattle.records.specs.Ranged.{stepOf, wholeIn, rangedIn, ranged}
 use Rattle.records.specs.Parents.{parents, parentSet}
 use Rattle.records.specs.Nodes.{tableRead, noTable, withNode, unlessAllZero, nothingFollows, nodes}
 
@@ -60,34 +56,25 @@ then-two out step then more found e = by step ∙ ap (λ (x : Two). andThen out 
     by (Read v next) = refl
     by (Refused r) = refl
 
--- a number that neither ended nor is padded nor has a value
-pub left-long : (found : Number) →
-    OneOf (0 ∷ 2 ∷ 3 ∷ []) (tagOf the-type found) → OneOf (0 ∷ 1 ∷ 2 ∷ []) (tagOf the-type found) → OneOf (1 ∷ 2 ∷ 3 ∷ []) (tagOf the-type found) →
-    found ≡ TooLong
-left-long (Value v n) e p h = absurd (⊎-elim (λ x. omega arith) (⊎-elim (λ x. omega arith) (λ x. omega arith)) h)
-left-long Ended e p h = absurd (⊎-elim (λ x. omega arith) (⊎-elim (λ x. omega arith) (λ x. omega arith)) e)
-left-long TooLong e p h = refl
-left-long (NotShortest v n) e p h = absurd (⊎-elim (λ x. omega arith) (⊎-elim (λ x. omega arith) (λ x. omega arith)) p)
-
 -- what the number reader found in the part that it was handed
-module _ (s : List ℕ) (at : ℕ) (found : Number) (e : found ≡ number recordMore (take (length s - at) (drop at s))) where
-  pub whole-is : (r : Number) → found ≡ r → whole s at ≡ stepOf (length s) at r
-  unfolding whole
-  whole-is r d = ap (stepOf (length s) at) (ap (number recordMore) (sym (part-from at s)) ∙ sym e ∙ d)
+pub whole-is : (more : ℕ) (s : List ℕ) (at : ℕ) (found : Number) → found ≡ number more (take (length s - at) (drop at s)) →
+    stepOf (length s) at found ≡ wholeIn more s at
+unfolding wholeIn
+whole-is more s at found e = ap (stepOf (length s) at) (e ∙ ap (number more) (part-from at s))
 
 -- a number that is not whole; one that is, outside its range and in it
-pub ranged-refused : (broken low high : ℕ) (s : List ℕ) (at : ℕ) (r : Refusal) → whole s at ≡ Refused r →
-    ranged broken low high s at ≡ Refused r
-unfolding ranged
-ranged-refused broken low high s at r e = then-refused _ _ _ _ e
+pub ranged-refused : (more broken low high : ℕ) (s : List ℕ) (at : ℕ) (r : Refusal) → wholeIn more s at ≡ Refused r →
+    rangedIn more broken low high s at ≡ Refused r
+unfolding rangedIn
+ranged-refused more broken low high s at r e = then-refused _ _ _ _ e
 
-module _ (broken low high : ℕ) (s : List ℕ) (at v next : ℕ) (e : whole s at ≡ Read v next) where
-  pub ranged-out : (v < low) ⊎ (high < v) → ranged broken low high s at ≡ Refused (refusal broken at)
-  unfolding ranged
+module _ (more broken low high : ℕ) (s : List ℕ) (at v next : ℕ) (e : wholeIn more s at ≡ Read v next) where
+  pub ranged-out : (v < low) ⊎ (high < v) → rangedIn more broken low high s at ≡ Refused (refusal broken at)
+  unfolding rangedIn
   ranged-out h = then-read _ _ _ _ _ e ∙ ⊎-elim (λ l. simp (lt-leb low v l)) (λ g. simp (lt-leb v high g, and-false)) h
 
-  pub ranged-in : low ≤ v → v ≤ high → ranged broken low high s at ≡ Read v next
-  unfolding ranged
+  pub ranged-in : low ≤ v → v ≤ high → rangedIn more broken low high s at ≡ Read v next
+  unfolding rangedIn
   ranged-in l g = then-read _ _ _ _ _ e ∙ simp (le-leb low v l, le-leb v high g)
 
 -- no parent left, and one more; and where that one was read

@@ -30,7 +30,7 @@ use Rattle.records.specs.declared.Step.{Step}
 use Rattle.records.specs.declared.Step.the-variants.{Read, Refused}
 use Rattle.records.specs.declared.Reading.{Reading}
 use Rattle.records.specs.Step.{andThen}
-use Rattle.records.specs.Ranged.{stepOf, whole, ranged}
+use Rattle.records.specs.Ranged.{stepOf, wholeIn, ranged}
 use Rattle.records.specs.Parents.{parents, parentSet}
 use Rattle.records.specs.Nodes.{tableRead, noTable, withNode, nothingFollows, nodes}
 use Rattle.records.specs.Reading.{headed, readingOf}
@@ -107,22 +107,22 @@ onward-step s at (parentCount t i e) = then-then _ _ _ _ ∙ then-same _ _ _ _ �
 onward-step s at (parent t i e left low set) = then-then _ _ _ _ ∙ then-same _ _ _ _ λ p next. parent-onward s next t i e left (p + 1) (set + 2 ^ p)
 
 -- the number at a place, by its form
-module _ (s : List ℕ) (at : ℕ) where
-  whole-read : {v n : ℕ} → Whole recordMore (drop at s) v n → whole s at ≡ Read v (at + n)
-  unfolding whole
-  whole-read (f, h) = ap (stepOf (length s) at) (forms.whole-read recordMore f h)
+module _ (more : ℕ) (s : List ℕ) (at : ℕ) where
+  pub whole-read : {v n : ℕ} → Whole more (drop at s) v n → wholeIn more s at ≡ Read v (at + n)
+  unfolding wholeIn
+  whole-read (f, h) = ap (stepOf (length s) at) (forms.whole-read more f h)
 
-  ends-read : Ends recordMore (drop at s) → whole s at ≡ Refused (refusal ended (length s))
-  unfolding whole
-  ends-read (k, h, l) = ap (stepOf (length s) at) (forms.ends-read recordMore l h)
+  pub ends-read : Ends more (drop at s) → wholeIn more s at ≡ Refused (refusal ended (length s))
+  unfolding wholeIn
+  ends-read (k, h, l) = ap (stepOf (length s) at) (forms.ends-read more l h)
 
-  long-read : Long recordMore (drop at s) → whole s at ≡ Refused (refusal tooLong at)
-  unfolding whole
-  long-read (rest, l) = ap (stepOf (length s) at) (forms.long-read recordMore l)
+  pub long-read : Long more (drop at s) → wholeIn more s at ≡ Refused (refusal tooLong at)
+  unfolding wholeIn
+  long-read (rest, l) = ap (stepOf (length s) at) (forms.long-read more l)
 
-  padded-read : Padded recordMore (drop at s) → whole s at ≡ Refused (refusal notShortest at)
-  unfolding whole
-  padded-read (k, rest, z, h, l) = ap (stepOf (length s) at) (forms.padded-read recordMore l z h .2)
+  pub padded-read : Padded more (drop at s) → wholeIn more s at ≡ Refused (refusal notShortest at)
+  unfolding wholeIn
+  padded-read (k, rest, z, h, l) = ap (stepOf (length s) at) (forms.padded-read more l z h .2)
 
 -- a refusal by a rule, with nothing beside its number and place
 abbrev pub ByRule : ((number place : ℕ) → Type 0) → Refusal → Type 0
@@ -137,7 +137,7 @@ module _ (s : List ℕ) where
   unfolding readingOf onward fromId fromPeriod fromCount
   reached begin = refl
   reached (on {place = at} {v = v} {n = n} {due = d} e w l h) =
-      reached e ∙ onward-step s at d ∙ then-read _ _ _ _ _ (ranged-in _ _ _ s at v (at + n) (whole-read s at w) l h)
+      reached e ∙ onward-step s at d ∙ then-read _ _ _ _ _ (ranged-in recordMore _ _ _ s at v (at + n) (whole-read recordMore s at w) l h)
 
   -- so what is refused by a rule is refused by that number at that place, and what spells a table is read as it
   stops : {at : ℕ} {d : Due} {r : Refusal} → Expects s at (number d) → ranged (range d .broken) (range d .low) (range d .high) s at ≡ Refused r → readingOf s ≡ noTable r
@@ -145,10 +145,10 @@ module _ (s : List ℕ) where
 
   pub rule-refused : {k place : ℕ} → Refuses s k place → readingOf s ≡ noTable (refusal k place)
   unfolding onward
-  rule-refused (ends {place = at} e f) = stops e (ranged-refused _ _ _ s at _ (ends-read s at f))
-  rule-refused (long {place = at} e f) = stops e (ranged-refused _ _ _ s at _ (long-read s at f))
-  rule-refused (padded {place = at} e f) = stops e (ranged-refused _ _ _ s at _ (padded-read s at f))
-  rule-refused (outside {place = at} e w o) = stops e (ranged-out _ _ _ s at _ _ (whole-read s at w) o)
+  rule-refused (ends {place = at} e f) = stops e (ranged-refused recordMore _ _ _ s at _ (ends-read recordMore s at f))
+  rule-refused (long {place = at} e f) = stops e (ranged-refused recordMore _ _ _ s at _ (long-read recordMore s at f))
+  rule-refused (padded {place = at} e f) = stops e (ranged-refused recordMore _ _ _ s at _ (padded-read recordMore s at f))
+  rule-refused (outside {place = at} e w o) = stops e (ranged-out recordMore _ _ _ s at _ _ (whole-read recordMore s at w) o)
   rule-refused (follow {place = at} {t = t} e h) = reached e ∙ some-follow t s at h
   rule-refused (none-runs {t = t} e z) = reached e ∙ none-run t s (length s) (le-refl (length s)) (zero-all (t .execution) (t .count) z)
 

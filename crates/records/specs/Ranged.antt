@@ -21,12 +21,19 @@ stepOf size at Ended = Refused (refusal ended size)
 stepOf size at TooLong = Refused (refusal tooLong at)
 stepOf size at (NotShortest v n) = Refused (refusal notShortest at)
 
--- "The reader works on the rest of the record from the byte it has reached."
-unfoldable pub whole : List ℕ → ℕ → Step
-whole bytes at = stepOf (length bytes) at (number recordMore (drop at bytes))
+-- "The reader works on the rest of the record from the byte it has reached.": a number of at most `more` bytes after its first
+unfoldable pub wholeIn : (more : ℕ) → List ℕ → ℕ → Step
+wholeIn more bytes at = stepOf (length bytes) at (number more (drop at bytes))
 
 -- "before its range is tried": outside low..high it is refused by `broken`, at "that number"
-unfoldable pub ranged : ℕ → ℕ → ℕ → List ℕ → ℕ → Step
-ranged broken low high bytes at =
-    andThen Refused (whole bytes at) λ v next.
+unfoldable pub rangedIn : (more : ℕ) → ℕ → ℕ → ℕ → List ℕ → ℕ → Step
+rangedIn more broken low high bytes at =
+    andThen Refused (wholeIn more bytes at) λ v next.
     pick (leb low v && leb v high) (Read v next) (Refused (refusal broken at))
+
+-- a task record's number, and its range
+abbrev pub whole : List ℕ → ℕ → Step
+whole = wholeIn recordMore
+
+abbrev pub ranged : ℕ → ℕ → ℕ → List ℕ → ℕ → Step
+ranged = rangedIn recordMore

@@ -4,14 +4,15 @@ use refusals::Outcome;
 use refusals::Refusal;
 use tables::TaskTable;
 ghost use mathlib.Core.Path.{_≡_};
-ghost use Prim.Native.Nat.{_≤_, _<_};
+ghost use Prim.Native.Nat.{ℕ, _+_, _≤_};
+ghost use mathlib.Core.List.{List};
 ghost use lib.ListN.{length};
 ghost use Rattle.tables.specs.Limits.{countMax};
 ghost use Rattle.tables.specs.Table.{emptyTable};
 ghost use Rattle.tables.specs.Runs.{allZero};
 ghost use Rattle.refusals.specs.Refusal.{refusal};
 ghost use Rattle.records.specs.Step.{andThen};
-ghost use Rattle.records.specs.Ranged.{whole, ranged};
+ghost use Rattle.records.specs.Ranged.{stepOf, wholeIn, rangedIn, whole, ranged};
 ghost use Rattle.records.specs.Parents.{parents, parentSet};
 ghost use Rattle.records.specs.Nodes.{tableRead, noTable, nothingFollows, nodes};
 ghost use Rattle.records.specs.Reading.{readingOf};
@@ -41,33 +42,34 @@ fn refuse(number: u64, place: usize) -> Step
     Step::Refused(Refusal::of(number, place))
 }
 
+// What was found for the number at a place of an input of size bytes: its value with the place after it, or the refusal.
+pub fn step_of(found: Number, at: usize, size: usize) -> Step
+    requires { ⌜ ((v n : ℕ) → found ≡ Number.Value v n → at + n ≤ size) ⌝ }
+    ensures { λ r. ⌜ r ≡ stepOf size at found ⌝ }
+{
+    match found {
+        Number::Value { value, length } => Step::Read {
+            value,
+            next: at + length,
+        },
+        Number::Ended => refuse(Refusal::ENDED, size),
+        Number::TooLong => refuse(Refusal::TOO_LONG, at),
+        Number::NotShortest { .. } => refuse(Refusal::NOT_SHORTEST, at),
+    }
+}
+
 // The number at a place, whole.
 fn read_whole(bytes: &[u8], at: usize) -> Step
     requires { ⌜ at ≤ length (now bytes) ⌝ }
     ensures { λ r. ⌜ r ≡ whole (now (bytes .entry)) at ⌝ }
 {
-    let found = numbers::read_number(&bytes[at..]);
-    if let Number::Ended = found {
-        return refuse(Refusal::ENDED, bytes.len());
-    }
-    if let Number::NotShortest { .. } = found {
-        return refuse(Refusal::NOT_SHORTEST, at);
-    }
-    let Number::Value { value, length } = found else {
-        return refuse(Refusal::TOO_LONG, at);
-    };
-    Step::Read {
-        value,
-        next: at + length,
-    }
+    step_of(numbers::read_number(&bytes[at..]), at, bytes.len())
 }
 
-// The number at a place, and only then its range.
-fn read_ranged(bytes: &[u8], at: usize, broken: u64, low: u64, high: u64) -> Step
-    requires { ⌜ at ≤ length (now bytes) ⌝ }
-    ensures { λ r. ⌜ r ≡ ranged broken low high (now (bytes .entry)) at ⌝ }
+// The range of a number that was read whole at a place, whatever the input and however long its numbers may be.
+pub fn in_range(step: Step, at: usize, broken: u64, low: u64, high: u64) -> Step
+    ensures { λ r. ⌜ ((more : ℕ) (bytes : List ℕ) → step ≡ wholeIn more bytes at → r ≡ rangedIn more broken low high bytes at) ⌝ }
 {
-    let step = read_whole(bytes, at);
     let Step::Read { value, next } = step else {
         return step;
     };
@@ -75,6 +77,14 @@ fn read_ranged(bytes: &[u8], at: usize, broken: u64, low: u64, high: u64) -> Ste
         return refuse(broken, at);
     }
     Step::Read { value, next }
+}
+
+// The number at a place, and only then its range.
+fn read_ranged(bytes: &[u8], at: usize, broken: u64, low: u64, high: u64) -> Step
+    requires { ⌜ at ≤ length (now bytes) ⌝ }
+    ensures { λ r. ⌜ r ≡ ranged broken low high (now (bytes .entry)) at ⌝ }
+{
+    in_range(read_whole(bytes, at), at, broken, low, high)
 }
 
 // Two numbers of the head, one after the other, each at least 1: the first is broken above high, the second wrong above most.

@@ -93,6 +93,14 @@ badLayout = 22
 abbrev pub manyTasks : ℕ
 manyTasks = 23
 
+-- a list's count is outside 1..64; or id or node count isn't the task's
+abbrev pub badPlan : ℕ
+badPlan = 24
+
+-- a rule is broken
+abbrev pub brokenRule : ℕ
+brokenRule = 25
+
 -- cost above 255
 abbrev pub highCost : ℕ
 highCost = 26
@@ -100,3 +108,7 @@ highCost = 26
 -- a file of more than 1,048,576 bytes
 abbrev pub longFile : ℕ
 longFile = 27
+
+-- an id or written word of 2^63 or more
+abbrev pub bigWord : ℕ
+bigWord = 28

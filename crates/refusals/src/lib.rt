@@ -3,7 +3,7 @@ ghost use mathlib.Core.Path.{_≡_};
 ghost use Rattle.refusals.specs.Refusal.{refusal, looped, refusalOf};
 ghost use Rattle.refusals.specs.InOrder.{inOrder};
 ghost use Rattle.refusals.specs.Answer.{accepted, refused, answerOf};
-ghost use Rattle.refusals.specs.Numbers.{ended, tooLong, badEdition, badId, badPeriod, badCount, badExecution, badParent, bytesFollow, loop, longPath, idStands, boardFull, notStanding, badCores, fewWords, unsoundBoard, notShortest, wrongLength, verdictNo, noneRuns, badLayout, manyTasks, highCost, longFile};
+ghost use Rattle.refusals.specs.Numbers.{ended, tooLong, badEdition, badId, badPeriod, badCount, badExecution, badParent, bytesFollow, loop, longPath, idStands, boardFull, notStanding, badCores, fewWords, unsoundBoard, notShortest, wrongLength, verdictNo, noneRuns, badLayout, manyTasks, badPlan, brokenRule, highCost, longFile, bigWord};
 
 // A number of the table; a place: a byte of the input, for 10 a node, else 0; for 10 the nodes of a loop, else none.
 pub struct Refusal {
@@ -59,9 +59,15 @@ impl Refusal {
 
     pub const MANY_TASKS: u64 = 23;
 
+    pub const BAD_PLAN: u64 = 24;
+
+    pub const BROKEN_RULE: u64 = 25;
+
     pub const HIGH_COST: u64 = 26;
 
     pub const LONG_FILE: u64 = 27;
+
+    pub const BIG_WORD: u64 = 28;
 
     pub fn of(number: u64, place: usize) -> Self
         ensures { λ r. ⌜ r ≡ refusal number place ⌝ }
@@ -184,6 +190,9 @@ pub fn constants_named()
     ensures { λ _. do ⌜ (← ⟦Refusal::NONE_RUNS⟧ .entry) ≡ noneRuns ⌝ }
     ensures { λ _. do ⌜ (← ⟦Refusal::BAD_LAYOUT⟧ .entry) ≡ badLayout ⌝ }
     ensures { λ _. do ⌜ (← ⟦Refusal::MANY_TASKS⟧ .entry) ≡ manyTasks ⌝ }
+    ensures { λ _. do ⌜ (← ⟦Refusal::BAD_PLAN⟧ .entry) ≡ badPlan ⌝ }
+    ensures { λ _. do ⌜ (← ⟦Refusal::BROKEN_RULE⟧ .entry) ≡ brokenRule ⌝ }
     ensures { λ _. do ⌜ (← ⟦Refusal::HIGH_COST⟧ .entry) ≡ highCost ⌝ }
     ensures { λ _. do ⌜ (← ⟦Refusal::LONG_FILE⟧ .entry) ≡ longFile ⌝ }
+    ensures { λ _. do ⌜ (← ⟦Refusal::BIG_WORD⟧ .entry) ≡ bigWord ⌝ }
 {}

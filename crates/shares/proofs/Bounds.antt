@@ -9,7 +9,7 @@ use Rattle.plain.proofs.Sums.{sum-under}
 use Rattle.tables.specs.Limits.{periodMax, countMax, workMax, overMax, million}
 use Rattle.shares.specs.declared.Deal.{Deal}
 use Rattle.shares.specs.Deal.{deal}
-use Rattle.shares.specs.Inner.Words.{threadsAt, lengthAt}
+use Rattle.shares.specs.Words.{threadsAt, lengthAt}
 use Rattle.shares.specs.Inner.Segmented.{Segmented}
 use Rattle.shares.specs.Inner.Asked.{rateMax, numeratorMax, DensityIn, HeavyIn, DealIn, FillIn}
 use Rattle.shares.proofs.Deals.{dealtTo, Dealt, heavy-all, light-all, both, dealt}

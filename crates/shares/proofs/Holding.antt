@@ -4,7 +4,7 @@ use mathlib.Core.List.{List}
 use Prim.Native.Nat.{ℕ, _<_}
 use Rattle.plain.specs.Sums.{sumTo}
 use Rattle.plain.proofs.Sums.{sum-same}
-use Rattle.shares.specs.Inner.Words.{threadsAt, lengthAt, numeratorAt}
+use Rattle.shares.specs.Words.{threadsAt, lengthAt, numeratorAt}
 
 -- the words hold a cut of s segments with threads m, lengths e and numerators f
 pub record HoldsSegments (w : List ℕ) (s : ℕ) (m e f : ℕ → ℕ) : Type 0 where

@@ -11,7 +11,7 @@ use borrow.Author.Count.{below-more}
 use Rattle.plain.specs.At.{at}
 use Rattle.shares.specs.declared.Deal.{Deal}
 use Rattle.shares.specs.Deal.{numerator}
-use Rattle.shares.specs.Inner.Words.{threadsAt, lengthAt, numeratorAt}
+use Rattle.shares.specs.Words.{threadsAt, lengthAt, numeratorAt}
 use Rattle.shares.specs.Inner.Written.{Numbered}
 use Rattle.shares.proofs.Holding.{HoldsSegments}
 

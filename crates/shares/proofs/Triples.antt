@@ -9,7 +9,7 @@ use native.Mathlib.Omega.{arith}
 use lib.ListN.{length, take, drop, set, getD, length-append, take-append-drop, List·getD-append}
 use lib.Seq.{drop-cons, set-at, append-snoc, getD-append-add}
 use Rattle.plain.specs.At.{at}
-use Rattle.shares.specs.Inner.Words.{threadsAt, lengthAt, numeratorAt}
+use Rattle.shares.specs.Words.{threadsAt, lengthAt, numeratorAt}
 use Rattle.shares.specs.Triples.{triples}
 use Rattle.shares.proofs.Holding.{HoldsSegments}
 

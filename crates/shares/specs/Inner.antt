@@ -1,6 +1,5 @@
 pub mod Asked
 pub mod Segmented
 pub mod Spans
-pub mod Words
 pub mod Written
 pub mod Kinds

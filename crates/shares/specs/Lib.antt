@@ -3,4 +3,5 @@ pub mod Deal
 pub mod Density
 pub mod Figures
 pub mod Triples
+pub mod Words
 pub mod Inner

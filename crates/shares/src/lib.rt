@@ -11,7 +11,7 @@ ghost use Rattle.shares.specs.Inner.Kinds.{kinds};
 ghost use Rattle.shares.specs.Deal.{deal, numerator};
 ghost use Rattle.shares.specs.Density.{millionths};
 ghost use Rattle.shares.specs.Figures.{figures, smaller, smallestTo};
-ghost use Rattle.shares.specs.Inner.Words.{threadsAt, lengthAt, numeratorAt};
+ghost use Rattle.shares.specs.Words.{threadsAt, lengthAt, numeratorAt};
 ghost use Rattle.shares.specs.Triples.{triples};
 ghost use Rattle.shares.specs.Inner.Spans.{offsetBy, spanBy};
 ghost use Rattle.shares.specs.Inner.Written.{Numbered};

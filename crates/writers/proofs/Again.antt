@@ -22,8 +22,9 @@ use Rattle.sets.proofs.Bits.{bit-put-same, bit-put-other, mem-lt, mem-or}
 use Rattle.tables.specs.declared.TaskTable.{TaskTable}
 use Rattle.tables.specs.Limits.{countMax}
 use Rattle.numbers.specs.Number.{recordMore}
-use Rattle.numbers.specs.Shortest.{Bytes, shortest}
+use Rattle.numbers.specs.Shortest.{Bytes, shortest, allShortest}
 use Rattle.numbers.proofs.Shortest.{form-shortest}
+use Rattle.numbers.proofs.Written.{written-append}
 use Rattle.records.specs.Nodes.{tableRead, withNode}
 use Rattle.records.specs.Reading.{headed, readingOf}
 use Rattle.records.specs.Expected.{Due, range, Next, nodeFrom, after, Expects}
@@ -33,7 +34,6 @@ use Rattle.records.specs.Expected.Expects.{begin, on}
 use Rattle.writers.specs.Record.{numbersWritten, nodeNumbers, numbersTo, recordOf, Full}
 use Rattle.records.proofs.Expected.{read-spelt}
 use Rattle.records.proofs.Answers.{Filling, Held, held, whole-table}
-use Rattle.writers.proofs.Written.{written-append}
 
 -- no digit at or past the width is 1
 pub high-zero : (d k s : ℕ) → s < 2 ^ d → d ≤ k → bit k s ≡ 0
@@ -119,11 +119,11 @@ after-behind (parent t i e (suc left) low set) v l h g =
 
 -- the bytes before a place that is reached are the numbers before what is expected there, written
 behind : (s : List ℕ) → Bytes s → {at : ℕ} {next : Next} → Expects s at next → take at s ≡ numbersWritten (behindOf next)
-unfolding behindOf numbersWritten
+unfolding behindOf allShortest
 behind s b begin = refl
 behind s b (on {place = at} {v = v} {n = n} {due = d} e w l h) =
     let x = form-shortest recordMore (λ k. rw (getD-drop at s k 0) (b (at + k))) (w .0) (w .1) .1 in
-    take-add at n s ∙ ap₂ _++_ (behind s b e) (x ∙ sym (append-nil (shortest recordMore v))) ∙ sym (written-append (behindOf (number d)) (v ∷ []))
+    take-add at n s ∙ ap₂ _++_ (behind s b e) (x ∙ sym (append-nil (shortest recordMore v))) ∙ sym (written-append recordMore (behindOf (number d)) (v ∷ []))
     ∙ ap numbersWritten (sym (after-behind d v l h (held e)))
 
 -- so an accepted record is its table, written

@@ -4,11 +4,9 @@ use mathlib.Core.Path.{_≡_, refl, sym, ap, ap₂, subst, _∙_}
 use mathlib.Core.Logic.{_⊎_, inl, inr, ⊎-elim}
 use mathlib.Core.Bool.{Bool, true, false}
 use mathlib.Core.List.{List, _++_}
-use native.Mathlib.Nat.{zero-add}
-use native.Mathlib.Omega.{arith}
 use lib.ListN.{length, drop}
 use lib.Dec.{ltb, eqb}
-use lib.Seq.{sets, sets-eq}
+use lib.Seq.{sets}
 use borrow.Author.Tests.{eq-eqb, ne-eqb, eqb-true, eqb-false, le-ltb, ltb-true, ltb-false}
 use Rattle.plain.specs.At.{at}
 use Rattle.plain.proofs.Sums.{max-same}
@@ -22,7 +20,9 @@ use Rattle.refusals.specs.InOrder.{inOrder}
 use Rattle.refusals.proofs.InOrder.{all-accepted}
 use Rattle.tables.specs.declared.TaskTable.{TaskTable}
 use Rattle.tables.specs.Runs.{allZero}
+use Rattle.numbers.specs.Number.{recordMore}
 use Rattle.numbers.proofs.Cases.{clash}
+use Rattle.numbers.proofs.Written.{sets-front, written-length, Wrote}
 use Rattle.writers.specs.declared.Trial.{Trial}
 use Rattle.writers.specs.Record.{numbersWritten, numbersOf, recordOf}
 use Rattle.writers.specs.Ranges.{ranges}
@@ -30,7 +30,6 @@ use Rattle.writers.specs.Writing.{filled, tableOf, unless, beforeWriting
 use Rattle.writers.specs.Inner.Trial.{recordTried}
 use Rattle.writers.specs.Inner.Parts.{headNumbers, nodesTo}
 use Rattle.writers.proofs.Parts.{at-filled, numbers-parts}
-use Rattle.writers.proofs.Putting.{Wrote, written-length}
 use Rattle.writers.proofs.Table.{trial-ranges, trial-place}
 
 -- a rule that passes is not broken
@@ -70,7 +69,7 @@ all-zero-filled X = ap (λ (m : ℕ). eqb m 0) (max-same (length X) (at X) (at (
 -- a record has the length of its parts
 pub parts-length : (X P : List ℕ) (x d p : ℕ) →
     length (recordOf (tableOf X P x d p)) ≡ length (numbersWritten (headNumbers x d p (length X))) + length (numbersWritten (nodesTo X P (length X)))
-parts-length X P x d p = ap (λ (vs : List ℕ). length (numbersWritten vs)) (numbers-parts X P x d p (length X)) ∙ written-length (headNumbers x d p (length X)) (nodesTo X P (length X))
+parts-length X P x d p = ap (λ (vs : List ℕ). length (numbersWritten vs)) (numbers-parts X P x d p (length X)) ∙ written-length recordMore (headNumbers x d p (length X)) (nodesTo X P (length X))
 
 module _ (X P b : List ℕ) (x d p : ℕ) where
   -- the rules, as the code tries them
@@ -129,8 +128,8 @@ module _ (X P b : List ℕ) (x d p : ℕ) where
       by same Accepted false false e f g = subst Coming (sym (call-accepted same (rw (e, f, g)))) (fits same (record { in-range = e; runs = f; room = ltb-false _ _ g }))
 
   -- the record stands at the front
-  pub record-front : (c : List ℕ) (next : ℕ) → Wrote b 0 (headNumbers x d p (length X) ++ nodesTo X P (length X)) c next → length (recordOf (tableOf X P x d p)) ≤ length b →
+  pub record-front : (c : List ℕ) (next : ℕ) → Wrote recordMore b 0 (headNumbers x d p (length X) ++ nodesTo X P (length X)) c next → length (recordOf (tableOf X P x d p)) ≤ length b →
       c ≡ recordOf (tableOf X P x d p) ++ drop (length (recordOf (tableOf X P x d p))) b
   record-front c next w h =
       let t = recordOf (tableOf X P x d p) in
-      w .bytes ∙ ap (λ (vs : List ℕ). sets b 0 (numbersWritten vs)) (sym (numbers-parts X P x d p (length X))) ∙ sets-eq t b 0 (omega (arith, h)) ∙ ap (λ (k : ℕ). t ++ drop k b) (zero-add (length t))
+      w .bytes ∙ ap (λ (vs : List ℕ). sets b 0 (numbersWritten vs)) (sym (numbers-parts X P x d p (length X))) ∙ sets-front t b h

@@ -12,19 +12,20 @@ use Rattle.tables.specs.declared.TaskTable.{TaskTable}
 use Rattle.tables.specs.Limits.{countMax}
 use Rattle.tables.specs.Range.{InRange}
 use Rattle.numbers.specs.Number.{recordMore}
-use Rattle.numbers.specs.Shortest.{shortest}
+use Rattle.numbers.specs.Shortest.{shortest, allShortest}
 use Rattle.numbers.proofs.Shortest.{shortest-fewer, shortest-length}
+use Rattle.numbers.proofs.Written.{written-length}
 use Rattle.writers.specs.Record.{numbersWritten, nodeNumbers, numbersTo, recordOf, recordMax}
-use Rattle.writers.proofs.Putting.{written-length, members-size}
+use Rattle.writers.proofs.Putting.{members-size}
 
 -- a number of at most `more` groups after its first
 short : (more v : ℕ) → v < 128 ^ suc more → more ≤ recordMore → length (numbersWritten (v ∷ [])) ≤ suc more
-unfolding numbersWritten
+unfolding allShortest
 short more v h l = omega (arith, ap (length {A = ℕ}) (append-nil (shortest recordMore v) ∙ shortest-fewer more recordMore v h l), shortest-length more v)
 
 -- one after the other
 cons-length : (v : ℕ) (vs : List ℕ) → length (numbersWritten (v ∷ vs)) ≡ length (numbersWritten (v ∷ [])) + length (numbersWritten vs)
-cons-length v vs = written-length (v ∷ []) vs
+cons-length v vs = written-length recordMore (v ∷ []) vs
 
 -- a node's numbers
 node-length : (e w : ℕ) → e < 128 ^ 3 → length (numbersWritten (nodeNumbers e w)) ≤ 4 + countMax
@@ -49,7 +50,7 @@ module _ (t : TaskTable) (r : InRange t) where
       )
   numbers-length (suc i) =
       let n = nodeNumbers (at (t .execution) i) (at (t .parents) i) in
-      omega (arith, written-length (numbersTo t i) n, numbers-length i, node-length (at (t .execution) i) (at (t .parents) i) (omega (arith, r .execution-high i)))
+      omega (arith, written-length recordMore (numbersTo t i) n, numbers-length i, node-length (at (t .execution) i) (at (t .parents) i) (omega (arith, r .execution-high i)))
 
   pub record-length : length (recordOf t) ≤ recordMax
   record-length = omega (arith, numbers-length (t .count), r .count-high)

@@ -13,10 +13,11 @@ use Rattle.refusals.specs.declared.Refusal.{Refusal}
 use Rattle.refusals.specs.declared.Outcome.the-variants.{Refused}
 use Rattle.refusals.specs.Refusal.{refusal}
 use Rattle.numbers.specs.Number.{recordMore}
-use Rattle.numbers.specs.Shortest.{shortest}
+use Rattle.numbers.specs.Shortest.{shortest, allShortest}
 use Rattle.numbers.specs.Form.{Whole}
 use Rattle.numbers.proofs.Cases.{clash}
 use Rattle.numbers.proofs.Shortest.{shortest-whole}
+use Rattle.numbers.proofs.Written.{written-append, written-length}
 use Rattle.records.specs.Expected.{range, Next, after, Expects, Refuses}
 use Rattle.records.specs.Expected.Due.{edition}
 use Rattle.records.specs.Expected.Next.{number, nothing}
@@ -27,8 +28,6 @@ use Rattle.writers.specs.Ranges.{rangesFrom, ranges}
 use Rattle.writers.specs.Stands.{Stands, Outside}
 use Rattle.writers.specs.Stands.Stands.{begin, on}
 use Rattle.writers.specs.Stands.Outside.{outside}
-use Rattle.writers.proofs.Written.{written-append}
-use Rattle.writers.proofs.Putting.{written-length}
 use Rattle.writers.proofs.Tried.{ranges-out, ranges-in}
 
 module _ (numbers : List ℕ) where
@@ -68,20 +67,20 @@ module _ (numbers : List ℕ) where
     -- the number v, after those of `front`
     number-whole : (front rest : List ℕ) (v : ℕ) → numbers ≡ front ++ v ∷ rest →
         Whole recordMore (drop (length (numbersWritten front)) (numbersWritten numbers)) v (length (shortest recordMore v))
-    unfolding numbersWritten
+    unfolding allShortest
     number-whole front rest v q =
         let low : v < 128 ^ suc recordMore = rw (ap (λ (l : List ℕ). at l (length front)) q ∙ getD-append-seam front v rest 0) at (small (length front)) in
-        let there = ap (drop (length (numbersWritten front))) (ap numbersWritten q ∙ written-append front (v ∷ rest))
+        let there = ap (drop (length (numbersWritten front))) (ap numbersWritten q ∙ written-append recordMore front (v ∷ rest))
         ∙ drop-append-seam (numbersWritten front) (shortest recordMore v ++ numbersWritten rest) in
         rw there (shortest-whole recordMore v (numbersWritten rest) low)
 
     stands-expected : {place : ℕ} {next : Next} {rest : List ℕ} → Stands numbers place next rest →
         (front : List ℕ) × (numbers ≡ front ++ rest) × (place ≡ length (numbersWritten front)) × Expects (numbersWritten numbers) place next
-    unfolding numbersWritten
+    unfolding allShortest
     stands-expected begin = ([], refl, refl, expected)
     stands-expected (on {place} {v} {due} {rest} s l h) =
         let (front, q, p, x) = stands-expected s in
-        let behind : place + length (shortest recordMore v) ≡ length (numbersWritten (front ++ v ∷ [])) = omega (arith, p, written-length front (v ∷ []), ap (length {A = ℕ}) (append-nil (shortest recordMore v))) in
+        let behind : place + length (shortest recordMore v) ≡ length (numbersWritten (front ++ v ∷ [])) = omega (arith, p, written-length recordMore front (v ∷ []), ap (length {A = ℕ}) (append-nil (shortest recordMore v))) in
         (front ++ v ∷ [], q ∙ sym (append-assoc front (v ∷ []) rest), behind, expected-on x (rw (← p) at (number-whole front rest v q)) l h)
 
     -- so it refuses the number that is outside its range by that number, at that byte

@@ -14,11 +14,12 @@ use Rattle.tables.specs.Limits.{countMax, executionMax}
 use Rattle.numbers.specs.Number.{recordMore}
 use Rattle.numbers.specs.Shortest.{shortest}
 use Rattle.numbers.specs.Inner.Word.{wordMore}
+use Rattle.numbers.proofs.Written.{written-length, word-number}
 use Rattle.writers.specs.declared.Trial.{Trial}
 use Rattle.writers.specs.Record.{numbersWritten, nodeNumbers}
 use Rattle.writers.specs.Inner.Trial.{tried, parentsTried, nodeTried}
 use Rattle.writers.proofs.Cases.{tried-passed, tried-in, parents-passed, parents-in}
-use Rattle.writers.proofs.Putting.{written-length, word-number, members-size}
+use Rattle.writers.proofs.Putting.{members-size}
 
 -- where it came through, it stands behind these numbers
 abbrev pub Stood : Trial → List ℕ → Type 0
@@ -29,13 +30,13 @@ module _ (r : Trial) (vs : List ℕ) (s : Stood r vs) where
   stood-number broken low high v h e =
       let f = tried-passed r broken low high v e in
       let n : tried broken low high v r .next ≡ r .next + length (shortest wordMore v) = ap (λ (x : Trial). x .next) (tried-in r broken low high v (f .0) (f .1) (f .2)) in
-      omega (arith, n, s (f .0), written-length vs (v ∷ []), ap (length {A = ℕ}) (word-number v (omega arith)))
+      omega (arith, n, s (f .0), written-length recordMore vs (v ∷ []), ap (length {A = ℕ}) (word-number recordMore v (omega arith) (omega arith)))
 
   pub stood-parents : (n w : ℕ) → n ≤ countMax → Stood (parentsTried n w r) (vs ++ members countMax w)
   stood-parents n w h e =
       let f = parents-passed r n w e in
       let m = ap (λ (x : Trial). x .next) (parents-in r n w (f .0) (f .1)) in
-      omega (arith, m, s (f .0), f .1, size-grows n countMax w h, written-length vs (members countMax w), members-size w)
+      omega (arith, m, s (f .0), f .1, size-grows n countMax w h, written-length recordMore vs (members countMax w), members-size w)
 
 pub stood-node : (r : Trial) (vs : List ℕ) → Stood r vs → (least n e w : ℕ) → n ≤ countMax → Stood (nodeTried least n e w r) (vs ++ nodeNumbers e w)
 stood-node r vs s least n e w h =

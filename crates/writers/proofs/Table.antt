@@ -22,8 +22,9 @@ use Rattle.tables.specs.Limits.{editionMax, idMax, periodMax, countMax, executi
 use Rattle.tables.specs.Range.{InRange}
 use Rattle.tables.specs.Runs.{allZero}
 use Rattle.tables.proofs.Runs.{some-runs}
+use Rattle.numbers.specs.Shortest.{allShortest}
 use Rattle.writers.specs.declared.Trial.{Trial}
-use Rattle.writers.specs.Record.{numbersWritten, numbersTo, numbersOf, recordOf, Full}
+use Rattle.writers.specs.Record.{numbersTo, numbersOf, recordOf, Full}
 use Rattle.writers.specs.Ranges.{ranges}
 use Rattle.writers.specs.Writing.{filled, tableOf}
 use Rattle.writers.specs.Inner.Trial.{passed, nodeTried, nodesTried, headTried, recordTried}
@@ -68,7 +69,7 @@ module _ (X P : List ℕ) (x d p : ℕ) where
 
   -- the place
   stood-head : Stood (headTried x d p (length X)) (numbersTo (tableOf X P x d p) 0)
-  unfolding numbersTo numbersWritten
+  unfolding numbersTo allShortest
   stood-head =
       let one = stood-number (passed 0) [] (λ e. refl) badEdition 1 editionMax x (omega arith) in
       let two = stood-number _ (x ∷ []) one badId 1 idMax d (omega arith) in

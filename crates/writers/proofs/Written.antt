@@ -1,6 +1,6 @@
 -- Numbers that are in range one after the other, written in shortest form, are read as the table that they tell: each is there whole, since
 -- every range is below four groups.
-use Prim.Native.Nat.{ℕ, suc, _+_, _^_, _≤_, _<_}
+use Prim.Native.Nat.{ℕ, suc, _^_, _≤_, _<_}
 use mathlib.Core.Path.{_≡_, refl, sym, ap, _∙_}
 use mathlib.Core.List.{List, [], _∷_, _++_, append-assoc, append-nil}
 use native.Mathlib.Omega.{arith}
@@ -9,7 +9,7 @@ use lib.Seq.{drop-append-seam}
 use Rattle.tables.specs.declared.TaskTable.{TaskTable}
 use Rattle.tables.specs.Runs.{SomeRuns}
 use Rattle.numbers.specs.Number.{recordMore}
-use Rattle.numbers.specs.Shortest.{shortest}
+use Rattle.numbers.specs.Shortest.{shortest, allShortest}
 use Rattle.numbers.proofs.Shortest.{shortest-whole}
 use Rattle.records.specs.Nodes.{tableRead}
 use Rattle.records.specs.Reading.{readingOf}
@@ -41,7 +41,7 @@ high-groups (parent t i e left low set) g = omega (arith, g .0 .size)
 -- after what is written before a place, the numbers that are told from there on are expected
 told-spells : (s front : List ℕ) {next : Next} {vs : List ℕ} {t : TaskTable} → s ≡ front ++ numbersWritten vs →
     Expects s (length front) next → Tells next vs t → Expects s (length s) (nothing t)
-unfolding numbersWritten
+unfolding allShortest
 told-spells s front e x end = let q : front ≡ s = sym (e ∙ append-nil front) in rw q at x
 told-spells s front e x (one {due = d} {v = v} {vs = vs} l h r) =
     let w = shortest recordMore v in
@@ -53,9 +53,3 @@ told-spells s front e x (one {due = d} {v = v} {vs = vs} l h r) =
 -- what is written from numbers in range is read as the table that they tell, where some node runs
 pub written-read : (vs : List ℕ) (t : TaskTable) → Tells (number edition) vs t → SomeRuns t → readingOf (numbersWritten vs) ≡ tableRead t
 written-read vs t r runs = spelt-read (numbersWritten vs) (told-spells (numbersWritten vs) [] refl begin r, runs)
-
--- numbers written in two parts
-pub written-append : (vs ws : List ℕ) → numbersWritten (vs ++ ws) ≡ numbersWritten vs ++ numbersWritten ws
-unfolding numbersWritten
-written-append [] ws = refl
-written-append (v ∷ vs) ws = ap (_++_ (shortest recordMore v)) (written-append vs ws) ∙ sym (append-assoc (shortest recordMore v) (numbersWritten vs) (numbersWritten ws))

@@ -9,12 +9,11 @@ use Rattle.tables.specs.Limits.{countMax}
 use Rattle.tables.specs.Range.{InRange}
 use Rattle.tables.specs.declared.TaskTable.{TaskTable}
 use Rattle.numbers.specs.Number.{recordMore}
-use Rattle.numbers.specs.Shortest.{shortest}
+use Rattle.numbers.specs.Shortest.{allShortest}
 
 -- "Only the shortest form is allowed": numbers as they are written, one after the other
-unfoldable pub numbersWritten : List ℕ → List ℕ
-numbersWritten [] = []
-numbersWritten (v ∷ vs) = shortest recordMore v ++ numbersWritten vs
+abbrev pub numbersWritten : List ℕ → List ℕ
+numbersWritten = allShortest recordMore
 
 -- "for each node .. its execution .., its parent count .. and that many parent numbers, .. strictly ascending": those of one node
 abbrev pub nodeNumbers : (execution set : ℕ) → List ℕ

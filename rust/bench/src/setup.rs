@@ -1,7 +1,7 @@
-//! The tasks, boards and files that are measured.
+//! The tasks, boards, files and plans that are measured.
 
 use ffi::task::{chain, dense, fork, number, ring, Node, Task};
-use reference::Row;
+use reference::{Row, PLAN_WORDS};
 use std::iter;
 use std::ops::Range;
 
@@ -84,6 +84,32 @@ pub const LONGEST: usize = 4_361;
 pub fn lists(task: &Task) -> [Aligned<[u64; 64]>; 2] {
     let (executions, parents) = task.lists();
     [executions, parents].map(|list| Aligned(list.try_into().expect("64 nodes")))
+}
+
+/// The bytes of the longest plan record.
+pub const LONGEST_PLAN: usize = 3_476;
+
+/// The words of the longest plan record, and the largest id: 64 segments and 64
+/// nodes, and each number but the counts takes nine groups.
+pub fn longest_plan() -> (Aligned<[u64; PLAN_WORDS]>, u64) {
+    let largest = (1 << 63) - 1;
+    let mut words = [largest; PLAN_WORDS];
+    words[1..3].fill(64);
+    (Aligned(words), largest)
+}
+
+/// The plan record of a task, or no bytes where it is not planned.
+pub fn own_plan(record: &[u8], cost: u64) -> Vec<u8> {
+    let mut words = [0; PLAN_WORDS];
+    let id = reference::read(record).map_or(0, |table| table.id);
+    let mut bytes = vec![0; LONGEST_PLAN];
+    let planned = reference::plan(record, &mut words, cost);
+    let written = match planned.refusal {
+        0 => reference::write_plan(&words, &mut bytes, id).value,
+        _ => 0,
+    };
+    bytes.truncate(written as usize);
+    bytes
 }
 
 /// The largest cost; no path gets too long by it.

@@ -2,8 +2,8 @@
 
 use crate::clock::{long, pair};
 use crate::setup::{
-    board, different, half_joins, lists, record, scattered, Aligned, Building, CHAIN, CORES, COST,
-    DIFFERENT, LONGEST, LOOSE, RING, SHAPES,
+    board, different, half_joins, lists, longest_plan, own_plan, record, scattered, Aligned,
+    Building, CHAIN, CORES, COST, DIFFERENT, LONGEST, LONGEST_PLAN, LOOSE, RING, SHAPES,
 };
 use ffi::task::Task;
 use reference::{Answer, Row, PLAN_WORDS};
@@ -13,7 +13,7 @@ pub fn print() {
     let copy = copy_time();
     println!("nanoseconds for one call, best of the batches' medians");
     println!("words buffer: 387 words, zeroed before the first call, then reused");
-    println!("bytes to write into: {LONGEST}, likewise");
+    println!("bytes to write into: {LONGEST}, for a plan {LONGEST_PLAN}, likewise");
     println!("words, boards, lists and bytes start on a cache line");
     println!("board: copied afresh before each note, admit and withdraw; the {copy:.1} for");
     println!("the copy are already taken off");
@@ -32,6 +32,8 @@ pub fn print() {
     let (written, read) = writing();
     let mended = mending();
     let graph = graph_reading();
+    plan_records();
+    let judged = judging();
     guard(&noted, &admitted);
     let record = "the time to write the longest record over the time to read it";
     over(record, written, read);
@@ -39,6 +41,7 @@ pub fn print() {
     over(mend, mended, (read.0 + written.0, read.1 + written.1));
     let text = "the time to read the longest record's text over the time to write the record";
     over(text, graph, written);
+    judge(&judged);
     buildings();
 }
 
@@ -371,6 +374,118 @@ fn graph_times(text: &[u8]) -> (f64, f64) {
             black_box(reference::read_graph(text, bytes, id, period));
         },
     )
+}
+
+/// A plan of 64 nodes, and the longest that there is.
+fn plan_records() {
+    let record = own_plan(&record(CHAIN, 64, 1), 0);
+    let mut words = Aligned([0; PLAN_WORDS]);
+    let id = ffi::read_plan(&record, &mut words.0).value;
+    let longest = longest_plan();
+    for (name, (words, id)) in [
+        ("a plan, chain of 64", (words, id)),
+        ("the longest", longest),
+    ] {
+        let (written, record) = plan_write_times(&words, id);
+        line(&format!("write {name}, {} bytes", record.len()), written);
+        let read = plan_read_times(&record, id);
+        line(&format!("read {name}, {} bytes", record.len()), read);
+    }
+}
+
+/// With what is written.
+fn plan_write_times(words: &Aligned<[u64; PLAN_WORDS]>, id: u64) -> ((f64, f64), Vec<u8>) {
+    let mut bytes = [Aligned([0; LONGEST_PLAN]); 2];
+    let [Aligned(library), Aligned(reference)] = &mut bytes;
+    let words = &words.0;
+    let answer = ffi::write_plan(words, library, id);
+    // A refusal would be over sooner.
+    assert_eq!(answer.refusal, 0);
+    let record = library[..answer.value as usize].to_vec();
+    let times = pair(
+        || {
+            let (words, bytes) = (black_box(words), black_box(&mut *library));
+            black_box(ffi::write_plan(words, bytes, black_box(id)));
+        },
+        || {
+            let (words, bytes) = (black_box(words), black_box(&mut *reference));
+            black_box(reference::write_plan(words, bytes, black_box(id)));
+        },
+    );
+    (times, record)
+}
+
+fn plan_read_times(record: &[u8], id: u64) -> (f64, f64) {
+    let mut words = [Aligned([0; PLAN_WORDS]); 2];
+    let [Aligned(library), Aligned(reference)] = &mut words;
+    // A refusal would be over sooner.
+    assert_eq!(ffi::read_plan(record, library).value, id);
+    pair(
+        || {
+            black_box(ffi::read_plan(black_box(record), black_box(library)));
+        },
+        || {
+            black_box(reference::read_plan(
+                black_box(record),
+                black_box(reference),
+            ));
+        },
+    )
+}
+
+/// A task that is judged with its own plan, and the times to judge and to plan it.
+struct Judged {
+    name: String,
+    judged: (f64, f64),
+    planned: (f64, f64),
+}
+
+fn judging() -> Vec<Judged> {
+    let mut tasks: Vec<(String, Vec<u8>)> = SHAPES
+        .map(|shape| (format!("{} of 64", shape.0), record(shape, 64, 1)))
+        .into();
+    tasks.push(("chain of 64, half of it joins".into(), half_joins(64, 1)));
+    let timed = |(name, record): (String, Vec<u8>)| {
+        let judged = judge_times(&record);
+        line(&format!("judge {name}, its own plan"), judged);
+        Judged {
+            name,
+            judged,
+            planned: plan_times(&[record], 0),
+        }
+    };
+    tasks.into_iter().map(timed).collect()
+}
+
+fn judge_times(record: &[u8]) -> (f64, f64) {
+    let plan = &own_plan(record, 0)[..];
+    let mut words = [Aligned([0; PLAN_WORDS]); 2];
+    let [Aligned(library), Aligned(reference)] = &mut words;
+    // A refusal would be over sooner.
+    assert_eq!(ffi::judge(record, plan, library, 0).refusal, 0);
+    pair(
+        || {
+            let (record, plan) = (black_box(record), black_box(plan));
+            black_box(ffi::judge(record, plan, black_box(library), black_box(0)));
+        },
+        || {
+            let (record, plan) = (black_box(record), black_box(plan));
+            let words = black_box(&mut *reference);
+            black_box(reference::judge(record, plan, words, black_box(0)));
+        },
+    )
+}
+
+/// What judging costs beside planning, as a ratio.
+fn judge(tasks: &[Judged]) {
+    println!();
+    println!("the time to judge a task's own plan over the time to plan the task");
+    println!("{:NAMES$}{:>9}{:>11}", "", "library", "reference");
+    for task in tasks {
+        let (judged, planned) = (task.judged, task.planned);
+        let (library, reference) = (judged.0 / planned.0, judged.1 / planned.1);
+        println!("{:NAMES$}{library:9.2}{reference:11.2}", task.name);
+    }
 }
 
 /// Walks through files, beside planning their records one by one.

@@ -3,7 +3,8 @@
 
 use crate::frames;
 use crate::setup::{
-    board, half_joins, lists, roomy_record, Aligned, CORES, COST, LONGEST, RING, SHAPES,
+    board, half_joins, lists, longest_plan, own_plan, roomy_record, Aligned, CORES, COST, LONGEST,
+    LONGEST_PLAN, RING, SHAPES,
 };
 use ffi::task::{file, Task};
 use reference::{Answer, Counts, Mending, Row, PLAN_WORDS};
@@ -32,7 +33,9 @@ pub fn print() {
     println!("admit the deepest of 64 nodes in each shape, a chain half of joins, the ring and");
     println!("the longest record, at cost {COST}; admit is for {CORES} cores, which have room;");
     println!("write is of the longest record, mend of that and of the longest that is mended,");
-    println!("read a graph of the longest record's text, building of plan's records in a file");
+    println!("read a graph of the longest record's text, building of plan's records in a file;");
+    println!("a plan is written and read with numbers as long as can be, judge is of plan's");
+    println!("records with their own plans");
     println!("{:42}{:>9}{:>11}", "", "library", "reference");
     let with_id = |(shape, id)| roomy_record(shape, 64, id);
     let shapes = SHAPES.into_iter().chain([RING]);
@@ -45,6 +48,8 @@ pub fn print() {
     line("mend", mend_depth(ffi::mend), mend_depth(reference::mend));
     graph_depths();
     building_depths(&records, planned);
+    plan_record_depths();
+    judge_depths(&records, planned);
     if cfg!(target_arch = "x86_64") {
         step_depth();
     }
@@ -217,6 +222,58 @@ fn building_depth(file: &[u8], building: impl Fn(&[u8], u64) -> Counts + Send + 
     let depth = depth(&mut || counts = building(black_box(file), COST));
     assert_eq!(counts.answer.refusal, 0);
     depth
+}
+
+fn plan_record_depths() {
+    let (Aligned(words), id) = longest_plan();
+    let mut record = [0; LONGEST_PLAN];
+    let library = depth(&mut || {
+        black_box(ffi::write_plan(&words, black_box(&mut record), id));
+    });
+    let reference = depth(&mut || {
+        black_box(reference::write_plan(&words, black_box(&mut record), id));
+    });
+    line("write a plan", library, reference);
+    let mut read = [0; PLAN_WORDS];
+    let library = depth(&mut || {
+        black_box(ffi::read_plan(&record, black_box(&mut read)));
+    });
+    let reference = depth(&mut || {
+        black_box(reference::read_plan(&record, black_box(&mut read)));
+    });
+    assert_eq!(read, words);
+    line("read a plan", library, reference);
+}
+
+/// Judged, and what the judge takes beside planning.
+fn judge_depths(records: &[Vec<u8>], planned: [usize; 2]) {
+    let judged = [
+        judge_depth(records, ffi::judge),
+        judge_depth(records, reference::judge),
+    ];
+    line("judge", judged[0], judged[1]);
+    less("judge less plan", judged, planned);
+}
+
+/// All but the ring and the longest record are accepted.
+fn judge_depth(
+    records: &[Vec<u8>],
+    judge: impl Fn(&[u8], &[u8], &mut [u64], u64) -> Answer + Send + Sync,
+) -> usize {
+    let mut words = [0; PLAN_WORDS];
+    let mut accepted = 0;
+    let depths = records.iter().map(|record| {
+        let plan = own_plan(record, COST);
+        let mut answer = Answer::default();
+        let depth = depth(&mut || {
+            answer = judge(black_box(record), &plan, black_box(&mut words), COST);
+        });
+        accepted += usize::from(answer.refusal == 0);
+        depth
+    });
+    let deepest = depths.max().unwrap_or(0);
+    assert_eq!(accepted, records.len() - 2, "a plan was refused");
+    deepest
 }
 
 fn deepest(records: &[Vec<u8>], mut call: impl FnMut(&[u8]) + Send) -> usize {

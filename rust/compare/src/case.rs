@@ -1,11 +1,12 @@
 //! One case: buffers as they are lent, and calls made on them in turn, by
 //! the library and by the reference, each on its own copy.
 
+use crate::foreign::PlanWriting;
 use crate::graph::Graph;
 use crate::guarded::{self, Buffers, Guard};
 use crate::said::Said;
 use crate::writing::{old_bytes, Writing};
-use crate::{counted, graphed, mended, rounds, sales, written};
+use crate::{counted, graphed, judged, mended, recorded, rounds, sales, written};
 use reference::{Answer, Counts, Mending, Row};
 
 #[derive(Clone, PartialEq)]
@@ -32,6 +33,15 @@ pub enum Call {
         file: Vec<u8>,
         cost: u64,
     },
+    /// A plan record.
+    ReadPlan(Vec<u8>),
+    WritePlan(PlanWriting),
+    /// A task's record, a plan's, and a cost.
+    Judge {
+        record: Vec<u8>,
+        plan: Vec<u8>,
+        cost: u64,
+    },
 }
 
 impl Call {
@@ -56,19 +66,22 @@ impl Call {
         Call::ASKS.map(|ask| ask(cores))
     }
 
-    /// The record that the call reads, if it reads one and no more.
+    /// The task's record that the call reads, if it reads just one.
     pub fn record(&self) -> Option<&[u8]> {
         match self {
             Call::Plan(record, _)
             | Call::Note(record, _)
             | Call::Admit { record, .. }
-            | Call::Mend { given: record, .. } => Some(record),
+            | Call::Mend { given: record, .. }
+            | Call::Judge { record, .. } => Some(record),
             Call::Withdraw(_)
             | Call::Ask(_)
             | Call::AskToEnd(_)
             | Call::Write(_)
             | Call::ReadGraph(_)
-            | Call::Building { .. } => None,
+            | Call::Building { .. }
+            | Call::ReadPlan(_)
+            | Call::WritePlan(_) => None,
         }
     }
 }
@@ -92,8 +105,8 @@ impl Case {
 }
 
 /// The first call after which the two sides aren't equal, or the library's
-/// answer breaks a rule of loops, of admitting, of writing, of mending, of graphs
-/// or of buildings, or a promise of the sales sheet.
+/// answer breaks a rule of loops, of admitting, of writing, of mending, of graphs,
+/// of buildings or of plans, or a promise of the sales sheet.
 pub struct Difference {
     pub call: usize,
     pub library: Said,
@@ -104,7 +117,7 @@ pub struct Difference {
     pub broken: Option<&'static str>,
 }
 
-/// The ten calls of one side.
+/// The thirteen calls of one side.
 struct Planner {
     plan: fn(&[u8], &mut [u64], u64) -> Answer,
     note: fn(&[u8], &mut [u64], &mut [Row], u64) -> Answer,
@@ -116,6 +129,9 @@ struct Planner {
     mend: fn(&[u8], &mut [u8]) -> Mending,
     read_graph: fn(&[u8], &mut [u8], u64, u64) -> Answer,
     building: fn(&[u8], u64) -> Counts,
+    read_plan: fn(&[u8], &mut [u64]) -> Answer,
+    write_plan: fn(&[u64], &mut [u8], u64) -> Answer,
+    judge: fn(&[u8], &[u8], &mut [u64], u64) -> Answer,
 }
 
 const LIBRARY: Planner = Planner {
@@ -129,6 +145,9 @@ const LIBRARY: Planner = Planner {
     mend: ffi::mend,
     read_graph: ffi::read_graph,
     building: ffi::building,
+    read_plan: ffi::read_plan,
+    write_plan: ffi::write_plan,
+    judge: ffi::judge,
 };
 
 const REFERENCE: Planner = Planner {
@@ -142,6 +161,9 @@ const REFERENCE: Planner = Planner {
     mend: reference::mend,
     read_graph: reference::read_graph,
     building: reference::building,
+    read_plan: reference::read_plan,
+    write_plan: reference::write_plan,
+    judge: reference::judge,
 };
 
 /// What is counted over the calls, where nothing differs.
@@ -152,6 +174,8 @@ pub struct Tally {
     pub mended: mended::Tally,
     pub graphed: graphed::Tally,
     pub counted: counted::Tally,
+    pub recorded: recorded::Tally,
+    pub judged: judged::Tally,
 }
 
 impl Tally {
@@ -161,6 +185,8 @@ impl Tally {
         self.mended.add(&other.mended);
         self.graphed.add(&other.graphed);
         self.counted.add(&other.counted);
+        self.recorded.add(&other.recorded);
+        self.judged.add(&other.judged);
     }
 }
 
@@ -194,6 +220,8 @@ pub fn compared(case: &Case) -> Result<Tally, Box<Difference>> {
         tally.mended.count(&ours);
         tally.graphed.count(call, ours.answer());
         tally.counted.count(&ours);
+        tally.recorded.count(call, ours.answer());
+        tally.judged.count(call, ours.answer());
     }
     Ok(tally)
 }
@@ -208,6 +236,9 @@ struct Lent {
     parents: Fenced<u64>,
     text: Fenced<u8>,
     file: Fenced<u8>,
+    plan: Fenced<u8>,
+    /// What the writer of plans is given.
+    plan_words: Fenced<u64>,
     bytes: Fenced<u8>,
 }
 
@@ -232,6 +263,8 @@ impl Lent {
             parents: Fenced::new(&[], 1),
             text: Fenced::new(&[], b'1'),
             file: Fenced::new(&[], 1),
+            plan: Fenced::new(&[], 1),
+            plan_words: Fenced::new(&[], 1),
             bytes: Fenced::new(&[], 0xFE),
         }
     }
@@ -253,6 +286,11 @@ impl Lent {
                 self.bytes.refill(&old_bytes(graph.lent));
             }
             Call::Building { file, .. } => self.file.refill(file),
+            Call::ReadPlan(plan) | Call::Judge { plan, .. } => self.plan.refill(plan),
+            Call::WritePlan(writing) => {
+                self.plan_words.refill(&writing.words);
+                self.bytes.refill(&old_bytes(writing.lent));
+            }
             _ => (),
         }
     }
@@ -291,6 +329,13 @@ impl Lent {
                 let counts = (by.building)(self.file.inside(), cost);
                 return Said::Counts(Box::new(counts));
             }
+            Call::ReadPlan(_) => (by.read_plan)(self.plan.inside(), words),
+            Call::WritePlan(PlanWriting { id, .. }) => {
+                (by.write_plan)(self.plan_words.inside(), self.bytes.inside(), id)
+            }
+            Call::Judge { cost, .. } => {
+                (by.judge)(self.record.inside(), self.plan.inside(), words, cost)
+            }
         };
         Said::Answer(answer)
     }
@@ -299,6 +344,7 @@ impl Lent {
     fn broken(&self, call: &Call, said: &Said, before: &Lent) -> Option<&'static str> {
         let answer = said.answer();
         let board = self.board.content();
+        let words = [before.words.content(), self.words.content()];
         rounds::broken(call, answer)
             .or_else(|| sales::broken(call, answer, board))
             .or_else(|| guarded::broken(call, answer, before.buffers(), self.buffers()))
@@ -306,6 +352,8 @@ impl Lent {
             .or_else(|| mended::broken(call, said, self.bytes.content()))
             .or_else(|| graphed::broken(call, answer, self.bytes.content()))
             .or_else(|| counted::broken(call, said))
+            .or_else(|| recorded::broken(call, answer, words, self.bytes.content()))
+            .or_else(|| judged::broken(call, answer, words))
     }
 
     fn buffers(&self) -> Buffers<'_> {
@@ -332,13 +380,22 @@ impl Lent {
             self.file
                 .first_difference(&reference.file, "byte of the file")
         };
+        let plan = || {
+            self.plan
+                .first_difference(&reference.plan, "byte of the plan")
+        };
+        let plan_word = || {
+            self.plan_words
+                .first_difference(&reference.plan_words, "word to write")
+        };
         let written = || {
             self.bytes
                 .first_difference(&reference.bytes, "written byte")
         };
         let read = word.or_else(row).or_else(byte);
         let read = read.or_else(execution).or_else(set).or_else(text);
-        read.or_else(file).or_else(written)
+        let read = read.or_else(file).or_else(plan).or_else(plan_word);
+        read.or_else(written)
     }
 }
 

@@ -118,7 +118,12 @@ fn read_node(rest: &mut &[u8]) -> Option<Node> {
 
 /// None where the bytes end inside of it, or its fourth is not its last.
 pub fn read_number(rest: &mut &[u8]) -> Option<Spelt> {
-    let last = rest.iter().take(4).position(|&byte| byte < 0x80)?;
+    read_number_of(rest, 4)
+}
+
+/// The same with another number of groups.
+pub fn read_number_of(rest: &mut &[u8], groups: usize) -> Option<Spelt> {
+    let last = rest.iter().take(groups).position(|&byte| byte < 0x80)?;
     let (groups, after) = rest.split_at(last + 1);
     *rest = after;
     let value = |value, &byte: &u8| value << 7 | u64::from(byte & 0x7F);

@@ -10,14 +10,17 @@ use crate::costs::{self, ALLOWED, COSTS, REFUSED};
 use crate::draft::Draft;
 use crate::files::{self, any_building};
 use crate::fits::{guarded_call, tight_fit};
+use crate::foreign::PlanWriting;
 use crate::graph::Graph;
 use crate::graphing::{self, any_graph};
 use crate::joins::{self, sprinkle};
+use crate::judging::{self, any_judging};
 use crate::lists::{self, any_writing};
 use crate::loops::drawings;
 use crate::mended;
 use crate::mending::{self, any_mending};
 use crate::random::Random;
+use crate::recording::{self, any_plan_writing, any_reading};
 use crate::records::{
     bad_forms, half_joins, misspelt, plain_task, random_bytes, samples, short_lists, spoilt,
     with_form, WORKED,
@@ -71,6 +74,7 @@ impl Run {
         self.all_of_planning()?;
         self.all_of_writing()?;
         self.all_of_files()?;
+        self.all_of_plans()?;
         self.family("by chance", Run::by_chance)
     }
 
@@ -126,6 +130,30 @@ impl Run {
         self.family("records in files", Run::records_in_files)?;
         self.family("largest files", Run::largest_files)?;
         self.family("files", Run::files)
+    }
+
+    /// Plan records, plans to be written, and plans to be judged.
+    fn all_of_plans(&mut self) -> Outcome {
+        self.family("cuts of plans", Run::cuts_of_plans)?;
+        self.family("bytes of plans", Run::bytes_of_plans)?;
+        self.family("forms in plans", Run::forms_in_plans)?;
+        self.family("numbers in plans", Run::numbers_in_plans)?;
+        self.family("counts in plans", Run::counts_in_plans)?;
+        self.family("plan records", Run::plan_records)?;
+        self.family("limits of plans to write", Run::limits_of_plans)?;
+        self.family("counts of plans to write", Run::counts_of_plans)?;
+        self.family("lengths of plans to write", Run::lengths_of_plans)?;
+        self.family("plans to write", Run::plans_to_write)?;
+        self.family("own plans", Run::own_plans)?;
+        self.family("cut plans", Run::cut_plans)?;
+        self.family("changed numbers", Run::changed_numbers)?;
+        self.family("two changes", Run::two_changes)?;
+        self.family("other shares", Run::other_shares)?;
+        self.family("large sums", Run::large_sums)?;
+        self.family("other tasks", Run::other_tasks)?;
+        self.family("refusals of the judge", Run::refusals_of_the_judge)?;
+        self.family("words for plans", Run::words_for_plans)?;
+        self.family("plans to judge", Run::plans_to_judge)
     }
 
     fn family(&mut self, name: &'static str, cases: fn(&mut Run) -> Outcome) -> Outcome {
@@ -473,7 +501,7 @@ impl Run {
     }
 
     fn sequences(&mut self) -> Outcome {
-        for _ in 0..250 {
+        for _ in 0..200 {
             self.sequence(200)?;
         }
         Ok(())
@@ -519,7 +547,7 @@ impl Run {
     }
 
     fn tables_to_write(&mut self) -> Outcome {
-        for _ in 0..20_000 {
+        for _ in 0..10_000 {
             let writing = any_writing(&mut self.random);
             self.alone(Call::Write(writing))?;
         }
@@ -624,6 +652,115 @@ impl Run {
         Ok(())
     }
 
+    /// With enough words and no board.
+    fn on_words(&mut self, call: Call) -> Outcome {
+        self.on_board(vec![], vec![call])
+    }
+
+    fn each_on_words(&mut self, calls: fn(&mut Random) -> Vec<Call>) -> Outcome {
+        let mut calls = calls(&mut self.random).into_iter();
+        calls.try_for_each(|call| self.on_words(call))
+    }
+
+    fn cuts_of_plans(&mut self) -> Outcome {
+        self.each_on_words(recording::cuts)
+    }
+
+    fn bytes_of_plans(&mut self) -> Outcome {
+        self.each_on_words(recording::bytes)
+    }
+
+    fn forms_in_plans(&mut self) -> Outcome {
+        self.each_on_words(recording::forms)
+    }
+
+    fn numbers_in_plans(&mut self) -> Outcome {
+        self.each_on_words(recording::numbers)
+    }
+
+    fn counts_in_plans(&mut self) -> Outcome {
+        self.each_on_words(recording::counts)
+    }
+
+    fn plan_records(&mut self) -> Outcome {
+        for _ in 0..5_000 {
+            let reading = any_reading(&mut self.random);
+            self.on_words(reading)?;
+        }
+        Ok(())
+    }
+
+    fn write_each_plan(&mut self, writings: fn(&mut Random) -> Vec<PlanWriting>) -> Outcome {
+        let mut writings = writings(&mut self.random).into_iter();
+        writings.try_for_each(|writing| self.alone(Call::WritePlan(writing)))
+    }
+
+    fn limits_of_plans(&mut self) -> Outcome {
+        self.write_each_plan(recording::limits_to_write)
+    }
+
+    fn counts_of_plans(&mut self) -> Outcome {
+        self.write_each_plan(recording::counts_to_write)
+    }
+
+    fn lengths_of_plans(&mut self) -> Outcome {
+        self.write_each_plan(recording::lengths_to_write)
+    }
+
+    fn plans_to_write(&mut self) -> Outcome {
+        for _ in 0..5_000 {
+            let writing = any_plan_writing(&mut self.random);
+            self.alone(Call::WritePlan(writing))?;
+        }
+        Ok(())
+    }
+
+    fn own_plans(&mut self) -> Outcome {
+        self.each_on_words(judging::own_plans)
+    }
+
+    fn cut_plans(&mut self) -> Outcome {
+        self.each_on_words(judging::cuts)
+    }
+
+    fn changed_numbers(&mut self) -> Outcome {
+        self.each_on_words(judging::changed_numbers)
+    }
+
+    fn two_changes(&mut self) -> Outcome {
+        self.each_on_words(judging::two_changes)
+    }
+
+    fn other_shares(&mut self) -> Outcome {
+        self.each_on_words(judging::other_shares)
+    }
+
+    fn large_sums(&mut self) -> Outcome {
+        self.each_on_words(judging::large_sums)
+    }
+
+    fn other_tasks(&mut self) -> Outcome {
+        self.each_on_words(judging::other_tasks)
+    }
+
+    fn refusals_of_the_judge(&mut self) -> Outcome {
+        let mut cases = judging::refusals(&mut self.random).into_iter();
+        cases.try_for_each(|case| self.compare(case))
+    }
+
+    fn words_for_plans(&mut self) -> Outcome {
+        let mut cases = judging::word_buffers(&mut self.random).into_iter();
+        cases.try_for_each(|case| self.compare(case))
+    }
+
+    fn plans_to_judge(&mut self) -> Outcome {
+        for _ in 0..10_000 {
+            let judging = any_judging(&mut self.random);
+            self.on_words(judging)?;
+        }
+        Ok(())
+    }
+
     fn by_chance(&mut self) -> Outcome {
         while self.compared < self.wanted {
             self.one_by_chance()?;
@@ -635,7 +772,7 @@ impl Run {
         let random = &mut self.random;
         let cost = any_cost(random);
         let cores = random.between(1, 64);
-        match random.below(68) {
+        match random.below(80) {
             0 => self.sequence(100),
             1..=8 => {
                 let board = any_board(random);
@@ -663,6 +800,7 @@ impl Run {
                 self.plan_at(record, cost)
             }
             33..=60 => self.one_alone(),
+            61..=72 => self.one_plan(),
             _ => {
                 let record = random_task(random, cost).record();
                 self.plan_at(record, cost)
@@ -680,5 +818,16 @@ impl Run {
             _ => any_building(random),
         };
         self.alone(call)
+    }
+
+    /// A plan that is read, written or judged.
+    fn one_plan(&mut self) -> Outcome {
+        let random = &mut self.random;
+        let call = match random.below(4) {
+            0 => any_reading(random),
+            1 => Call::WritePlan(any_plan_writing(random)),
+            _ => any_judging(random),
+        };
+        self.on_words(call)
     }
 }

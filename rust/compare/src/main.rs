@@ -11,17 +11,22 @@ mod edition1;
 mod families;
 mod files;
 mod fits;
+mod foreign;
 mod graph;
 mod graphed;
 mod graphing;
 mod guarded;
 mod joins;
+mod judged;
+mod judging;
 mod lists;
 mod loops;
 mod mended;
 mod mending;
 mod parts;
 mod random;
+mod recorded;
+mod recording;
 mod records;
 mod refused;
 mod report;
@@ -131,5 +136,26 @@ fn print_tally(Run { tally, again, .. }: &Run) {
     println!("files walked to their end: {walked}, refused by {refused}");
     println!("records in files accepted: {accepted}, refused by {records_refused}");
     println!("of those, segments heavy: {heavy}, light: {light}, tasks dense: {dense}");
+    print_plans(tally);
     println!("records read, then written and mended, byte for byte: {again}");
+}
+
+fn print_plans(tally: &case::Tally) {
+    let recorded::Tally {
+        read,
+        not_read,
+        written,
+        not_written,
+    } = &tally.recorded;
+    println!("plan records read: {read}, refused by {not_read}");
+    println!("plan records written: {written}, refused by {not_written}");
+    let judged::Tally {
+        accepted,
+        refused,
+        rules,
+        own,
+    } = &tally.judged;
+    println!("plans accepted by the judge: {accepted}, refused by {refused}");
+    println!("of these, by 25 at the rules {rules}");
+    println!("plans made, then written and accepted as they were: {own}");
 }

@@ -1,6 +1,7 @@
 //! Printing a difference.
 
 use crate::case::{difference, Call, Case};
+use crate::foreign::PlanWriting;
 use crate::graph::Graph;
 use crate::parts::Parts;
 use crate::refused::Refused;
@@ -109,6 +110,13 @@ fn text(call: &Call) -> String {
         Call::Mend { given, lent } => format!("mend into {lent} bytes, {}", bytes(given)),
         Call::ReadGraph(graph) => graph_text(graph),
         Call::Building { file, cost } => format!("building at cost {cost}, {}", file_text(file)),
+        Call::ReadPlan(plan) => format!("read a plan, {}", bytes(plan)),
+        Call::WritePlan(writing) => plan_writing_text(writing),
+        Call::Judge { record, plan, cost } => format!(
+            "judge at cost {cost}, {}; the plan, {}",
+            bytes(record),
+            bytes(plan)
+        ),
     }
 }
 
@@ -139,6 +147,13 @@ fn graph_text(graph: &Graph) -> String {
         text.len(),
         text.escape_ascii()
     )
+}
+
+fn plan_writing_text(writing: &PlanWriting) -> String {
+    let PlanWriting { words, id, lent } = writing;
+    let listed = self::words(words);
+    let many = words.len();
+    format!("write a plan with id {id} into {lent} bytes, words: {many}{listed}")
 }
 
 /// A record that comes often in a row is printed once, with how many times.

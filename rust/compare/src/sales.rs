@@ -37,7 +37,10 @@ pub fn broken(call: &Call, answer: &Answer, board: &[Row]) -> Option<&'static st
         | Call::Write(_)
         | Call::Mend { .. }
         | Call::ReadGraph(_)
-        | Call::Building { .. } => return None,
+        | Call::Building { .. }
+        | Call::ReadPlan(_)
+        | Call::WritePlan(_)
+        | Call::Judge { .. } => return None,
     };
     if answer.refusal != 0 {
         return None;

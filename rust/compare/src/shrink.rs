@@ -3,6 +3,7 @@
 
 use crate::case::{difference, Call, Case};
 use crate::draft::Draft;
+use crate::foreign::{Base, Foreign, PlanWriting, Triples};
 use crate::graph::Graph;
 use crate::parts::Parts;
 use crate::sketch::Sketch;
@@ -86,6 +87,9 @@ fn shrink_call(case: &mut Case, at: usize) {
         Call::Write(_) => shrink_writing(case, at),
         Call::ReadGraph(_) => shrink_graph(case, at),
         Call::Building { .. } => shrink_building(case, at),
+        Call::ReadPlan(_) => shrink_plan(case, at),
+        Call::WritePlan(_) => shrink_plan_writing(case, at),
+        Call::Judge { .. } => shrink_judging(case, at),
     }
 }
 
@@ -95,8 +99,8 @@ fn shrink_reading(case: &mut Case, at: usize) {
     shrink_task(&record(case, at).clone(), |changed| {
         keeps(case, |case| *record(case, at) = changed)
     });
-    unpad(case, at);
-    shrink_bytes(case, at);
+    unpad(case, at, record);
+    shrink_bytes(case, at, record);
 }
 
 fn shrink_number(case: &mut Case, at: usize) {
@@ -120,39 +124,52 @@ fn record_and_number(case: &mut Case, at: usize) -> (&mut Vec<u8>, &mut u64) {
         }
         Call::Mend { given, lent } => (given, lent),
         Call::Building { file, cost } => (file, cost),
+        Call::Judge { record, cost, .. } => (record, cost),
         Call::Withdraw(_)
         | Call::Ask(_)
         | Call::AskToEnd(_)
         | Call::Write(_)
-        | Call::ReadGraph(_) => unreachable!("this call has no record"),
+        | Call::ReadGraph(_)
+        | Call::ReadPlan(_)
+        | Call::WritePlan(_) => unreachable!("this call has no record"),
     }
 }
+
+/// Which bytes of a call.
+type Bytes = fn(&mut Case, usize) -> &mut Vec<u8>;
 
 fn record(case: &mut Case, at: usize) -> &mut Vec<u8> {
     record_and_number(case, at).0
 }
 
+fn plan(case: &mut Case, at: usize) -> &mut Vec<u8> {
+    match &mut case.calls[at] {
+        Call::ReadPlan(plan) | Call::Judge { plan, .. } => plan,
+        _ => unreachable!("this call has no plan record"),
+    }
+}
+
 /// Takes groups of zeros off the ends of numbers.
-fn unpad(case: &mut Case, at: usize) {
-    for last in (1..record(case, at).len()).rev() {
-        if record(case, at)[last] == 0 && record(case, at)[last - 1] >= 0x80 {
+fn unpad(case: &mut Case, at: usize, bytes: Bytes) {
+    for last in (1..bytes(case, at).len()).rev() {
+        if bytes(case, at)[last] == 0 && bytes(case, at)[last - 1] >= 0x80 {
             keeps(case, |case| {
-                record(case, at).remove(last);
-                record(case, at)[last - 1] &= 0x7F;
+                bytes(case, at).remove(last);
+                bytes(case, at)[last - 1] &= 0x7F;
             });
         }
     }
 }
 
-fn shrink_bytes(case: &mut Case, at: usize) {
-    drop_parts(record(case, at).len(), |first, length| {
+fn shrink_bytes(case: &mut Case, at: usize, bytes: Bytes) {
+    drop_parts(bytes(case, at).len(), |first, length| {
         keeps(case, |case| {
-            record(case, at).drain(first..first + length);
+            bytes(case, at).drain(first..first + length);
         })
     });
-    for byte in 0..record(case, at).len() {
-        lower(u64::from(record(case, at)[byte]), |value| {
-            keeps(case, |case| record(case, at)[byte] = value as u8)
+    for byte in 0..bytes(case, at).len() {
+        lower(u64::from(bytes(case, at)[byte]), |value| {
+            keeps(case, |case| bytes(case, at)[byte] = value as u8)
         });
     }
 }
@@ -345,8 +362,8 @@ fn shrink_building(case: &mut Case, at: usize) {
     });
     if record(case, at).len() <= LONG {
         shrink_records(case, at);
-        unpad(case, at);
-        shrink_bytes(case, at);
+        unpad(case, at, record);
+        shrink_bytes(case, at, record);
     }
 }
 
@@ -363,6 +380,107 @@ fn shrink_records(case: &mut Case, at: usize) {
     for number in 0..records(case, at).len() {
         shrink_task(&records(case, at)[number], |changed| {
             rearranges(case, at, |parts| parts.records[number] = changed)
+        });
+    }
+}
+
+/// As a plan first, segments, nodes and then numbers, then as bytes.
+fn shrink_plan(case: &mut Case, at: usize) {
+    if let Ok(mut foreign) = Foreign::read(plan(case, at)) {
+        for list in PLAN_LISTS {
+            drop_parts(list(&mut foreign).len(), |first, length| {
+                replans(case, at, &mut foreign, |foreign| {
+                    list(foreign).drain(first..first + length);
+                })
+            });
+        }
+        shrink_plan_numbers(case, at, &mut foreign);
+    }
+    unpad(case, at, plan);
+    shrink_bytes(case, at, plan);
+}
+
+const PLAN_LISTS: [fn(&mut Foreign) -> &mut Triples; 2] =
+    [|plan| &mut plan.segments, |plan| &mut plan.nodes];
+
+const PLAN_FIELDS: [fn(&mut Foreign) -> &mut u64; 2] = [|plan| &mut plan.over, |plan| &mut plan.id];
+
+fn shrink_plan_numbers(case: &mut Case, at: usize, foreign: &mut Foreign) {
+    for list in PLAN_LISTS {
+        for number in 0..3 * list(foreign).len() {
+            lower(list(foreign).as_flattened()[number], |value| {
+                replans(case, at, foreign, |foreign| {
+                    list(foreign).as_flattened_mut()[number] = value
+                })
+            });
+        }
+    }
+    for field in PLAN_FIELDS {
+        lower(*field(foreign), |value| {
+            replans(case, at, foreign, |foreign| *field(foreign) = value)
+        });
+    }
+}
+
+/// Takes the change of the plan over if there is still a difference.
+fn replans(
+    case: &mut Case,
+    at: usize,
+    foreign: &mut Foreign,
+    change: impl FnOnce(&mut Foreign),
+) -> bool {
+    let mut changed = foreign.clone();
+    change(&mut changed);
+    let kept = keeps(case, |case| *plan(case, at) = changed.record());
+    if kept {
+        *foreign = changed;
+    }
+    kept
+}
+
+/// Smaller tasks with their own plans if these will do, then the plan, then the
+/// record by itself.
+fn shrink_judging(case: &mut Case, at: usize) {
+    shrink_task(&record(case, at).clone(), |changed| {
+        let cost = *record_and_number(case, at).1;
+        let Some(base) = Base::drawn(&changed, cost) else {
+            return false;
+        };
+        keeps(case, |case| {
+            *record(case, at) = changed;
+            *plan(case, at) = base.own.record();
+        })
+    });
+    shrink_plan(case, at);
+    shrink_reading(case, at);
+}
+
+const PLAN_WRITING_FIELDS: [fn(&mut PlanWriting) -> &mut u64; 2] =
+    [|writing| &mut writing.id, |writing| &mut writing.lent];
+
+fn plan_writing(case: &mut Case, at: usize) -> &mut PlanWriting {
+    match &mut case.calls[at] {
+        Call::WritePlan(writing) => writing,
+        _ => unreachable!("this call writes no plan"),
+    }
+}
+
+/// Words, then the id and the number of bytes lent.
+fn shrink_plan_writing(case: &mut Case, at: usize) {
+    let words = plan_writing(case, at).words.len();
+    lower(words as u64, |length| {
+        keeps(case, |case| {
+            plan_writing(case, at).words.truncate(length as usize)
+        })
+    });
+    for word in 0..plan_writing(case, at).words.len() {
+        lower(plan_writing(case, at).words[word], |value| {
+            keeps(case, |case| plan_writing(case, at).words[word] = value)
+        });
+    }
+    for field in PLAN_WRITING_FIELDS {
+        lower(*field(plan_writing(case, at)), |value| {
+            keeps(case, |case| *field(plan_writing(case, at)) = value)
         });
     }
 }

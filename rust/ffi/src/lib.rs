@@ -1,4 +1,4 @@
-//! The proved library's C interface as ten ordinary calls, so that it can
+//! The proved library's C interface as thirteen ordinary calls, so that it can
 //! stand wherever the reference can; and the tasks both programs feed to it.
 
 pub mod task;
@@ -59,6 +59,23 @@ extern "C" {
         period: u64,
     ) -> Answer;
     fn planner_building(file: *const u8, length: usize, cost: u64) -> Counts;
+    fn planner_read_plan(plan: *const u8, length: usize, words: *mut u64, lent: usize) -> Answer;
+    fn planner_write_plan(
+        words: *const u64,
+        given: usize,
+        bytes: *mut u8,
+        lent: usize,
+        id: u64,
+    ) -> Answer;
+    fn planner_judge(
+        record: *const u8,
+        bytes: usize,
+        plan: *const u8,
+        length: usize,
+        words: *mut u64,
+        lent: usize,
+        cost: u64,
+    ) -> Answer;
 }
 
 pub fn plan(record: &[u8], words: &mut [u64], cost: u64) -> Answer {
@@ -134,4 +151,25 @@ pub fn read_graph(text: &[u8], bytes: &mut [u8], id: u64, period: u64) -> Answer
 pub fn building(file: &[u8], cost: u64) -> Counts {
     // SAFETY: pointer and length are one slice's, which is only read.
     unsafe { planner_building(file.as_ptr(), file.len(), cost) }
+}
+
+pub fn read_plan(plan: &[u8], words: &mut [u64]) -> Answer {
+    let (length, lent) = (plan.len(), words.len());
+    // SAFETY: each pointer goes with its own slice's length; the two do not
+    // overlap.
+    unsafe { planner_read_plan(plan.as_ptr(), length, words.as_mut_ptr(), lent) }
+}
+
+pub fn write_plan(words: &[u64], bytes: &mut [u8], id: u64) -> Answer {
+    let (given, lent) = (words.len(), bytes.len());
+    // SAFETY: each pointer goes with its own slice's length; the bytes do not
+    // overlap the words, which are only read.
+    unsafe { planner_write_plan(words.as_ptr(), given, bytes.as_mut_ptr(), lent, id) }
+}
+
+pub fn judge(record: &[u8], plan: &[u8], words: &mut [u64], cost: u64) -> Answer {
+    let (bytes, length, lent) = (record.len(), plan.len(), words.len());
+    let (record, plan, words) = (record.as_ptr(), plan.as_ptr(), words.as_mut_ptr());
+    // SAFETY: each pointer goes with its own slice's length; no two overlap.
+    unsafe { planner_judge(record, bytes, plan, length, words, lent, cost) }
 }

@@ -1,6 +1,6 @@
 //! A file of records, walked from the left: each is planned alone, and counted.
 
-use crate::plan::{heavy_segments, write_plan, MILLION, PLAN_WORDS};
+use crate::plan::{fill, heavy_segments, MILLION, PLAN_WORDS};
 use crate::record::{Reader, Table};
 use crate::refusal::{Refusal, Rule};
 use crate::timing::Timing;
@@ -70,7 +70,7 @@ impl Counts {
         let mut table = Table::read(record)?;
         table.pay(cost);
         let timing = Timing::of(&table)?;
-        let row = write_plan(&table, &timing, words).row;
+        let row = fill(&table, &timing, words).row;
         let segments = timing.segments().len() as u64;
         let heavy = heavy_segments(table.period, &timing);
         self.nodes += table.count as u64;
@@ -117,7 +117,7 @@ pub fn building_sheet(input: &[u8]) -> Vec<u8> {
 /// The part of the file that the next record occupies. Refusals 1, 2 and 18 are
 /// at the first byte of its length, and 1 for a record that runs past the file's
 /// end is there.
-fn next_record<'a>(reader: &mut Reader<'a>) -> Result<&'a [u8], Refusal> {
+pub fn next_record<'a>(reader: &mut Reader<'a>) -> Result<&'a [u8], Refusal> {
     let place = reader.place();
     let length = reader.number();
     let length = length.map_err(|refusal| refusal.moved(place))?;

@@ -1,5 +1,5 @@
 //! Document 01, as the requests of document 02 change it, in plain Rust: the
-//! ten public calls and the printed sheets.
+//! thirteen public calls and the printed sheets.
 //!
 //! Written from the documents alone, but for which loop is shown (the choice
 //! is docs/PROTOCOL.md's), so that an answer of the proved library can be held
@@ -9,7 +9,10 @@
 
 mod board;
 mod building;
+mod check;
+mod foreign;
 mod graph;
+mod judge;
 mod mend;
 mod plan;
 mod record;
@@ -21,6 +24,7 @@ mod timing;
 mod write;
 
 pub use building::{building_sheet, Counts};
+pub use check::check_sheet;
 pub use graph::graph_sheet;
 pub use mend::Mending;
 pub use plan::PLAN_WORDS;
@@ -29,17 +33,18 @@ pub use row::Row;
 pub use sheet::sheet;
 
 use board::{allowed_cores, find, fits, free_row, sound, verdict, verdict_to_end, ROWS};
+use foreign::Plan;
 use mend::mended;
-use plan::{lent_words, write_plan};
+use plan::{fill, lent_words};
 use refusal::{Refusal, Rule};
 use timing::Timing;
 use write::write;
 
 /// What every call returns, mending and the walk through a building with counts
 /// beside it. With refusal 0, `value` is the words or bytes written, the row
-/// filled or freed, the records walked through, or 1 for yes and 0 for no;
-/// otherwise it is 0. Beside refusal 10, `ring` is the set of a loop's nodes, node
-/// k as bit k; else 0.
+/// filled or freed, the records walked through, the id of a plan, or 1 for yes and
+/// 0 for no; otherwise it is 0. Beside refusal 10, `ring` is the set of a loop's
+/// nodes, node k as bit k; else 0.
 #[repr(C)]
 #[derive(Clone, Copy, Debug, Default, PartialEq, Eq)]
 pub struct Answer {
@@ -140,6 +145,24 @@ pub fn building(file: &[u8], cost: u64) -> Counts {
     Counts::of(file, cost)
 }
 
+/// Reads a plan record into the lent words, as planning would fill them. The value
+/// is the id.
+pub fn read_plan(plan: &[u8], words: &mut [u64]) -> Answer {
+    plan_read(plan, words).into()
+}
+
+/// Writes the record of the plan in these words, under that id, into the lent
+/// bytes. The value is the number of bytes.
+pub fn write_plan(words: &[u64], bytes: &mut [u8], id: u64) -> Answer {
+    foreign::write(words, bytes, id).into()
+}
+
+/// Judges a foreign plan of the record's task, each step at that dispatch cost,
+/// and fills the lent words with it where it is accepted. The value is the id.
+pub fn judge(record: &[u8], plan: &[u8], words: &mut [u64], cost: u64) -> Answer {
+    judged(record, plan, words, cost).into()
+}
+
 /// What the calls read a record as, or their answer where it is refused. It is
 /// none of the calls: what is written can be held against it.
 pub fn read(record: &[u8]) -> Result<Table, Answer> {
@@ -157,7 +180,7 @@ fn planned(record: &[u8], words: &mut [u64], cost: u64) -> Result<u64, Refusal> 
     let mut table = Table::read(record)?;
     table.pay(cost);
     let timing = Timing::of(&table)?;
-    Ok(write_plan(&table, &timing, words).words)
+    Ok(fill(&table, &timing, words).words)
 }
 
 /// Row and id are settled before the first word is written, since 12 and 13
@@ -170,7 +193,7 @@ fn noted(record: &[u8], words: &mut [u64], board: &mut [Row], cost: u64) -> Resu
     table.pay(cost);
     let timing = Timing::of(&table)?;
     let row = free_row(rows, table.id)?;
-    board[row] = write_plan(&table, &timing, words).row;
+    board[row] = fill(&table, &timing, words).row;
     Ok(row as u64)
 }
 
@@ -192,7 +215,7 @@ fn admitted(
     let timing = Timing::of(&table)?;
     let row = free_row(&rows, table.id)?;
     let mut aside = [0; PLAN_WORDS];
-    let written = write_plan(&table, &timing, &mut aside);
+    let written = fill(&table, &timing, &mut aside);
     rows[row] = written.row;
     fits(&rows, cores)?;
     let plan = 0..written.words as usize;
@@ -213,4 +236,24 @@ fn withdrawn(board: &mut [Row], id: u64) -> Result<u64, Refusal> {
     let row = find(sound(board)?, id)?;
     board[row] = Row::default();
     Ok(row as u64)
+}
+
+fn plan_read(plan: &[u8], words: &mut [u64]) -> Result<u64, Refusal> {
+    let words = lent_words(words)?;
+    let plan = Plan::read(plan)?;
+    plan.hand_over(words);
+    Ok(plan.id)
+}
+
+/// The words are tried between the two records.
+fn judged(record: &[u8], plan: &[u8], words: &mut [u64], cost: u64) -> Result<u64, Refusal> {
+    allowed_cost(cost)?;
+    let mut table = Table::read(record)?;
+    table.pay(cost);
+    let timing = Timing::of(&table)?;
+    let words = lent_words(words)?;
+    let plan = Plan::read(plan)?;
+    judge::judge(&table, &timing, &plan)?;
+    plan.hand_over(words);
+    Ok(plan.id)
 }

@@ -26,7 +26,7 @@ pub fn lent_words(words: &mut [u64]) -> Result<&mut [u64; PLAN_WORDS], Refusal> 
 }
 
 /// Writes all of the plan; cannot refuse any more.
-pub fn write_plan(table: &Table, timing: &Timing, words: &mut [u64; PLAN_WORDS]) -> Written {
+pub fn fill(table: &Table, timing: &Timing, words: &mut [u64; PLAN_WORDS]) -> Written {
     let shares = Shares::of(table.period, timing);
     let segments = timing.segments().len();
     let (head, rest) = words.split_at_mut(HEAD);

@@ -71,15 +71,29 @@ impl Table {
     }
 }
 
-/// The record, or the file of records, and the place of the next byte in it.
+/// The record, or the file of records, the place of the next byte in it, and the
+/// most groups of a number.
 pub struct Reader<'a> {
     record: &'a [u8],
     at: usize,
+    groups: usize,
 }
 
 impl<'a> Reader<'a> {
     pub fn of(record: &'a [u8]) -> Reader<'a> {
-        Reader { record, at: 0 }
+        Reader {
+            record,
+            at: 0,
+            groups: 4,
+        }
+    }
+
+    /// A plan record's numbers may be longer.
+    pub fn of_plan(plan: &'a [u8]) -> Reader<'a> {
+        Reader {
+            groups: 9,
+            ..Reader::of(plan)
+        }
     }
 
     pub fn place(&self) -> usize {
@@ -114,7 +128,7 @@ impl<'a> Reader<'a> {
 
     /// A number that has to lie in low..=high; it is read whole before that.
     #[inline]
-    fn within(&mut self, low: u64, high: u64, rule: Rule) -> Result<u64, Refusal> {
+    pub fn within(&mut self, low: u64, high: u64, rule: Rule) -> Result<u64, Refusal> {
         let place = self.at;
         let value = self.number()?;
         if low <= value && value <= high {
@@ -138,7 +152,7 @@ impl<'a> Reader<'a> {
 
     fn long_number(&mut self) -> Result<u64, Refusal> {
         let mut value = 0;
-        for group in 0..4 {
+        for group in 0..self.groups {
             let Some(&byte) = self.record.get(self.at + group) else {
                 return Err(Refusal::at(Rule::InputEnds, self.record.len()));
             };
@@ -155,7 +169,8 @@ impl<'a> Reader<'a> {
         Err(Refusal::at(Rule::TooLong, self.at))
     }
 
-    fn end(&self) -> Result<(), Refusal> {
+    /// Refusal 9.
+    pub fn end(&self) -> Result<(), Refusal> {
         if !self.is_at_end() {
             return Err(Refusal::at(Rule::BytesFollow, self.at));
         }

@@ -26,11 +26,15 @@ pub enum Rule {
     NothingRuns = 21,
     Layout = 22,
     TaskCount = 23,
+    PlanCount = 24,
+    UnfitPlan = 25,
     Cost = 26,
     LongFile = 27,
+    LargeWord = 28,
 }
 
-/// A rule, the byte or node it was broken at, and the nodes of a loop.
+/// A rule, where it was broken, and the nodes of a loop. The place is a byte, a
+/// node, a word or the number of a plan's rule.
 #[derive(Clone, Copy, Debug)]
 pub struct Refusal {
     rule: Rule,

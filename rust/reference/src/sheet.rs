@@ -1,11 +1,10 @@
-//! A table's sheet, and the text the printing program gives for a record.
+//! A plan's sheet, and the text the printing program gives for a record.
 
 use std::fmt::Write;
 
-use crate::plan::{write_plan, HEAD, PLAN_WORDS};
+use crate::plan::{fill, HEAD, PLAN_WORDS};
 use crate::record::Table;
 use crate::refusal::Refusal;
-use crate::row::Row;
 use crate::timing::Timing;
 
 /// The program looks at no more of its input than this.
@@ -30,7 +29,12 @@ pub fn printed(sheet: Result<String, Refusal>) -> Vec<u8> {
 pub fn sheet_of(table: &Table) -> Result<String, Refusal> {
     let timing = Timing::of(table)?;
     let mut words = [0; PLAN_WORDS];
-    let written = write_plan(table, &timing, &mut words);
+    let written = fill(table, &timing, &mut words).words;
+    Ok(lines(table, &timing, &words[..written as usize]))
+}
+
+/// Of a plan's words, whoever made them.
+pub fn lines(table: &Table, timing: &Timing, words: &[u64]) -> String {
     let mut text = format!(
         "task {} period {} work {} path {} over {}\n",
         table.id, table.period, timing.work, timing.path, words[0]
@@ -39,10 +43,11 @@ pub fn sheet_of(table: &Table) -> Result<String, Refusal> {
     let names = ["seg", "threads", "length", "deadline"];
     triples(&mut text, names, &words[HEAD..nodes_at]);
     let names = ["node", "offset", "deadline", "density"];
-    triples(&mut text, names, &words[nodes_at..written.words as usize]);
-    let Row { sum, largest, .. } = written.row;
-    text.push_str(&format!("sum {sum} max {largest}\n"));
-    Ok(text)
+    triples(&mut text, names, &words[nodes_at..]);
+    let densities = words[nodes_at..].chunks_exact(3).map(|node| node[2]);
+    let sum: u64 = densities.clone().sum();
+    let largest = densities.max().unwrap_or(0);
+    text + &format!("sum {sum} max {largest}\n")
 }
 
 /// One line for each triple, numbered from 0.

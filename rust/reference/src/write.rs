@@ -38,21 +38,22 @@ pub fn write(
 }
 
 /// A record as far as it is written, aside from the lent bytes: these are only
-/// touched when nothing can be refused any more.
-struct Writer {
+/// touched when nothing can be refused any more. A plan record is shorter.
+pub struct Writer {
     bytes: [u8; LONGEST],
     at: usize,
 }
 
 impl Writer {
-    fn at_zero() -> Writer {
+    pub fn at_zero() -> Writer {
         Writer {
             bytes: [0; LONGEST],
             at: 0,
         }
     }
 
-    fn hand_over(&self, bytes: &mut [u8]) -> Result<u64, Refusal> {
+    /// Refusal 19.
+    pub fn hand_over(&self, bytes: &mut [u8]) -> Result<u64, Refusal> {
         let record = &self.bytes[..self.at];
         let lent = bytes.len();
         let Some(bytes) = bytes.get_mut(..record.len()) else {
@@ -86,7 +87,7 @@ impl Writer {
 
     /// Groups of seven bits, lowest first, no more than it takes.
     #[inline]
-    fn number(&mut self, mut value: u64) {
+    pub fn number(&mut self, mut value: u64) {
         while value >= 0x80 {
             self.byte(value as u8 | 0x80);
             value >>= 7;

@@ -1,9 +1,9 @@
 //! The planner against the document's definitions taken literally: reaching
 //! by closure, cuts from every start and finish, offsets by walking parents,
 //! a loop by leaving out nodes, an execution as what is written plus the cost,
-//! a file's counts as sums over its tasks.
+//! a file's counts as sums over its tasks, a foreign plan by its rules.
 
-use reference::{building, note, plan, Answer, Counts, Row, PLAN_WORDS};
+use reference::{building, judge, note, plan, Answer, Counts, Row, PLAN_WORDS};
 use std::collections::BTreeSet;
 
 #[derive(Clone)]
@@ -243,9 +243,10 @@ fn refused(refusal: u64) -> Answer {
     }
 }
 
-/// Execution over deadline in millionths, rounded up; a join's is 0.
+/// Execution over deadline in millionths, rounded up; a join's is 0, and so is that
+/// of a foreign plan without a deadline.
 fn density(execution: u64, over: u64, deadline: u64) -> u64 {
-    if execution == 0 {
+    if execution == 0 || deadline == 0 {
         return 0;
     }
     let above = u128::from(execution) * u128::from(over) * 1_000_000;
@@ -266,10 +267,15 @@ fn literal(task: &Task) -> Result<Vec<u64>, Answer> {
         return Err(refused(11));
     }
     let (over, numerators) = deadlines(task, &segments);
+    Ok(words(task, &segments, over, &numerators))
+}
+
+/// Of a plan with these numerators, whatever they are.
+fn words(task: &Task, segments: &[Segment], over: u64, numerators: &[u64]) -> Vec<u64> {
     let count = task.executions.len();
     let mut words = vec![over, segments.len() as u64, count as u64];
     let mut node_deadlines = vec![0; count];
-    for (segment, numerator) in segments.iter().zip(&numerators) {
+    for (segment, numerator) in segments.iter().zip(numerators) {
         words.extend([segment.threads(), segment.length, *numerator]);
         for &node in &segment.running {
             node_deadlines[node] += numerator;
@@ -279,7 +285,7 @@ fn literal(task: &Task) -> Result<Vec<u64>, Answer> {
         let density = density(task.execution(node), over, deadline);
         words.extend([task.offset(node, &node_deadlines), deadline, density]);
     }
-    Ok(words)
+    words
 }
 
 #[test]
@@ -418,4 +424,117 @@ fn files_of_random_tasks() {
     assert!(heavy > 5_000, "only {heavy} segments were heavy");
     assert!(light > 500, "only {light} segments were light");
     assert!(dense > 300, "only {dense} tasks were dense");
+}
+
+/// A plan with time moved from segments to others, and half of them with a word
+/// changed.
+fn foreign(random: &mut Random, task: &Task) -> Vec<u64> {
+    let segments = segments(task);
+    let (mut over, mut numerators) = deadlines(task, &segments);
+    let times = 1 + random.below(3);
+    over *= times;
+    numerators
+        .iter_mut()
+        .for_each(|numerator| *numerator *= times);
+    for _ in 0..random.below(3) {
+        let [from, to] = [0; 2].map(|_| random.below(segments.len() as u64) as usize);
+        let most = numerators[from] / [1, 2, 10][random.below(3) as usize];
+        let moved = random.below(most + 1);
+        numerators[from] -= moved;
+        numerators[to] += moved;
+    }
+    let mut words = words(task, &segments, over, &numerators);
+    if random.below(2) == 0 {
+        let at = [0, 3 + random.below(words.len() as u64 - 3) as usize];
+        let word = &mut words[at[usize::from(random.below(8) > 0)]];
+        *word = [*word + 1, word.saturating_sub(1), 0, 2 * *word][random.below(4) as usize];
+    }
+    words
+}
+
+/// Id 7, then the words with each count before its list.
+fn plan_record(words: &[u64]) -> Vec<u8> {
+    let (segments, nodes) = words[3..].split_at(3 * words[1] as usize);
+    let numbers = [&[7, words[0], words[1]], segments, &[words[2]], nodes].concat();
+    let mut record = Vec::new();
+    numbers.iter().for_each(|&value| number(&mut record, value));
+    record
+}
+
+/// The number of the first rule that the plan breaks, by the unrounded fractions.
+fn first_broken(task: &Task, words: &[u64]) -> Option<u64> {
+    let own = segments(task);
+    let wide = |triple: &[u64]| [triple[0], triple[1], triple[2]].map(u128::from);
+    let (segments, nodes) = words[3..].split_at(3 * words[1] as usize);
+    let segments: Vec<[u128; 3]> = segments.chunks(3).map(wide).collect();
+    let nodes: Vec<[u128; 3]> = nodes.chunks(3).map(wide).collect();
+    let [over, period, work] = [words[0], task.period, task.work()].map(u128::from);
+    let execution = |node: usize| u128::from(task.execution(node));
+    let is_cut = |(own, foreign): (&Segment, &[u128; 3])| {
+        [own.threads(), own.length].map(u128::from) == foreign[..2]
+    };
+    let is_sum = |(node, triple): (usize, &[u128; 3])| {
+        let runs = |(own, foreign): (&Segment, &[u128; 3])| {
+            own.running.contains(&node).then_some(foreign[2])
+        };
+        // What starts and ends at one cut runs in no segment.
+        let through = own.iter().zip(&segments).filter_map(runs);
+        triple[1] == through.sum()
+    };
+    let follows = |(node, triple): (usize, &[u128; 3])| {
+        let ends = task.parents[node]
+            .iter()
+            .map(|&parent| nodes[parent][0] + nodes[parent][1]);
+        triple[0] == ends.max().unwrap_or(0)
+    };
+    let rules: [&dyn Fn() -> bool; 8] = [
+        &|| 0 < over && over <= 8_421_120,
+        &|| own.len() == segments.len() && own.iter().zip(&segments).all(is_cut),
+        &|| segments.iter().map(|segment| segment[2]).sum::<u128>() == period * over,
+        &|| nodes.iter().enumerate().all(is_sum),
+        &|| nodes.iter().enumerate().all(follows),
+        &|| {
+            (0..)
+                .zip(&nodes)
+                .all(|(node, triple)| execution(node) * over <= 2 * triple[1])
+        },
+        &|| {
+            let mut segments = segments.iter();
+            segments.all(|[m, e, numerator]| m * e * over * period <= 2 * work * numerator)
+        },
+        &|| {
+            let mut nodes = (0..).zip(words[3 + 3 * own.len()..].chunks(3));
+            nodes.all(|(node, triple)| {
+                triple[2] == density(task.execution(node), words[0], triple[1])
+            })
+        },
+    ];
+    let broken = rules.iter().position(|holds| !holds());
+    broken.map(|at| at as u64 + 1)
+}
+
+#[test]
+fn foreign_plans_of_random_tasks() {
+    let mut random = Random(0x8CB9_2BA7_2F3D_8DD7);
+    let (mut accepted, mut broken) = (0, [0; 9]);
+    for _ in 0..20_000 {
+        let task = Task::random(&mut random);
+        if literal(&task).is_err() {
+            continue;
+        }
+        let words = foreign(&mut random, &task);
+        let mut lent = [0; PLAN_WORDS];
+        let answer = judge(&task.record(), &plan_record(&words), &mut lent, task.cost);
+        let Some(rule) = first_broken(&task, &words) else {
+            accepted += 1;
+            assert_eq!((answer.refusal, answer.value), (0, 7));
+            assert_eq!(lent[..words.len()], words);
+            continue;
+        };
+        broken[rule as usize] += 1;
+        assert_eq!((answer.refusal, answer.place), (25, rule));
+        assert_eq!(lent, [0; PLAN_WORDS]);
+    }
+    assert!(accepted > 1_000, "only {accepted} were accepted");
+    assert!(broken[1..].iter().all(|&many| many > 20), "{broken:?}");
 }

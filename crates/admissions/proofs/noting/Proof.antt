@@ -14,7 +14,7 @@ use Rattle.plans.specs.Calls.{beforeReading, onTable, onTask}
 use Rattle.plans.proofs.Table.{read-plannable}
 use Rattle.plans.proofs.Tests.{ready, task-refused, task-read}
 use Rattle.boards.specs.Sound.{isSound}
-use Rattle.boards.proofs.Tests.{passed, failed}
+use Rattle.plain.proofs.Tests.{passed, failed}
 use Rattle.boards.proofs.Halves.{first-holds, first-fails}
 use Rattle.admissions.specs.Admission.{notAdmitted, entered, noting}
 use Rattle.admissions.proofs.Tests.{refused-first, unsound, sound, leaves}

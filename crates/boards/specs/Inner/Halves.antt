@@ -5,7 +5,8 @@ use lib.Dec.{eqb}
 use Rattle.plain.specs.Pick.{pick}
 use Rattle.boards.specs.declared.Row.{Row}
 use Rattle.boards.specs.Row.{rowsMax, rowAt}
-use Rattle.boards.specs.Sound.{both, isBare, isUntimed, isDense, isTimed, allTo, isNew}
+use Rattle.plain.specs.Tests.{both, allTo}
+use Rattle.boards.specs.Sound.{isBare, isUntimed, isDense, isTimed, isNew}
 
 -- no task and no densities, or both in their ranges
 unfoldable pub densitiesFit : Row → Bool

@@ -11,7 +11,7 @@ use Rattle.tables.specs.declared.TaskTable.{TaskTable}
 use Rattle.shares.specs.declared.Kinds.{Kinds}
 use Rattle.shares.specs.declared.Figures.{Figures}
 use Rattle.shares.specs.Figures.{figures}
-use Rattle.shares.specs.Inner.Words.{threadsAt, lengthAt}
+use Rattle.shares.specs.Words.{threadsAt, lengthAt}
 use Rattle.shares.proofs.Heavies.{heavies-le}
 use Rattle.plans.specs.Shares.{density}
 use Rattle.plans.proofs.Figures.{figures-read, figures-in}

@@ -5,7 +5,7 @@ use borrow.Author.Needs.{needs}
 use borrow.Author.Tests.{le-leb, lt-leb}
 use Rattle.refusals.specs.Answer.{refused}
 use Rattle.boards.proofs.Sides.{density-fits, left-fits}
-use Rattle.boards.proofs.Tests.{pick-yes, pick-no}
+use Rattle.plain.proofs.Tests.{pick-yes, pick-no}
 use Rattle.guards.proofs.guard.Statement.{statement}
 use Rattle.guards.proofs.guard.Tie as tie
 

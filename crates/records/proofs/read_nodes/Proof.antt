@@ -8,6 +8,7 @@ use borrow.Author.Needs.{needs}
 use Rattle.refusals.specs.Numbers.{badExecution}
 use Rattle.tables.specs.Limits.{countMax, executionMax, leastExecution}
 use Rattle.tables.specs.Runs.{allZero}
+use Rattle.numbers.specs.Number.{recordMore}
 use Rattle.records.specs.declared.Step.the-variants.{Read}
 use Rattle.records.specs.Parents.{parentSet}
 use Rattle.records.specs.Nodes.{nodes}
@@ -45,8 +46,8 @@ rejected-requires c κs = search needs
 
 -- a node's execution
 execution : (c : tie.After-first Inv-loop μ-loop) → (let h = c .before .before .before .before in
-    Passed badExecution (h .before .least-execution .result) executionMax (now (h .before .before .before .args .bytes)) (h .loop .at) (c .first .given .0 .0) (c .first .given .0 .1 .0))
-execution c = passed _ _ _ _ _ _ _ _ (c .before .before .read-ranged .ensures) (c .first .given .1) (omega arith)
+    Passed recordMore badExecution (h .before .least-execution .result) executionMax (now (h .before .before .before .args .bytes)) (h .loop .at) (c .first .given .0 .0) (c .first .given .0 .1 .0))
+execution c = passed _ _ _ _ _ _ _ _ _ (c .before .before .read-ranged .ensures) (c .first .given .1) (omega arith)
 
 -- its parent set, and the place after it
 set : (c : tie.After-second Inv-loop μ-loop) → (let f = c .before .before .before .before in let a = f .before .before .before .before .before .before .before .args in

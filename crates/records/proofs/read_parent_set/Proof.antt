@@ -4,6 +4,7 @@ use native.Mathlib.Omega.{arith}
 use denote.Ref.{now}
 use borrow.Author.Needs.{needs}
 use Rattle.refusals.specs.Numbers.{badParent}
+use Rattle.numbers.specs.Number.{recordMore}
 use Rattle.records.specs.Parents.{parentSet}
 use Rattle.records.proofs.Cases.{then-read, then-refused}
 use Rattle.records.proofs.Inside.{Passed, passed}
@@ -26,8 +27,8 @@ returns c = let e = c .enum-told .given .1 in
 
 -- the parent count
 count : (c : tie.After-step) → (let a = c .before .before .before .before .args in
-    Passed badParent 0 (a .n) (now (a .bytes)) (a .at) (c .step .given .0 .0) (c .step .given .0 .1 .0))
-count c = passed _ _ _ _ _ _ _ _ (c .before .before .read-ranged .ensures) (c .step .given .1) (omega arith)
+    Passed recordMore badParent 0 (a .n) (now (a .bytes)) (a .at) (c .step .given .0 .0) (c .step .given .0 .1 .0))
+count c = passed _ _ _ _ _ _ _ _ _ (c .before .before .read-ranged .ensures) (c .step .given .1) (omega arith)
 
 read-parents-requires : tie.Need-read-parents-requires
 read-parents-requires c κs = let p = count (c .before) in omega arith

@@ -7,6 +7,7 @@ use lib.ListN.{length}
 use denote.Ref.{now}
 use borrow.Author.Needs.{needs}
 use Rattle.refusals.specs.Numbers.{badParent}
+use Rattle.numbers.specs.Number.{recordMore}
 use Rattle.records.specs.Parents.{parents}
 use Rattle.records.proofs.Cases.{then-refused, parents-none, parents-more, parents-next}
 use Rattle.records.proofs.Inside.{Passed, passed, set-room, bit-word, word-room}
@@ -37,8 +38,8 @@ enum-told c = search needs
 
 -- the parent that a turn read
 parent : (c : tie.After-step Inv-loop μ-loop) → (let h = c .before .before .before .before in let a = h .before .before .args in
-    Passed badParent (h .loop .low) (a .n - 1) (now (a .bytes)) (h .loop .at) (c .step .given .0 .0) (c .step .given .0 .1 .0))
-parent c = passed _ _ _ _ _ _ _ _ (c .before .before .read-ranged .ensures) (c .step .given .1) (omega arith)
+    Passed recordMore badParent (h .loop .low) (a .n - 1) (now (a .bytes)) (h .loop .at) (c .step .given .0 .0) (c .step .given .0 .1 .0))
+parent c = passed _ _ _ _ _ _ _ _ _ (c .before .before .read-ranged .ensures) (c .step .given .1) (omega arith)
 
 -- the set has room for it
 room : (c : tie.After-step Inv-loop μ-loop) → c .before .before .before .before .loop .set + 2 ^ (c .step .given .0 .0) < 2 ^ (c .step .given .0 .0 + 1)

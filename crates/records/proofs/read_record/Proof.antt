@@ -6,6 +6,7 @@ use denote.Ref.{now}
 use borrow.Author.Needs.{needs}
 use Rattle.refusals.specs.Numbers.{badId, badCount}
 use Rattle.tables.specs.Limits.{idMax, countMax}
+use Rattle.numbers.specs.Number.{recordMore}
 use Rattle.records.specs.Reading.{readingOf}
 use Rattle.records.proofs.Cases.{then-read, then-refused, then-two}
 use Rattle.records.proofs.Inside.{Passed, two-passed}
@@ -14,11 +15,11 @@ use Rattle.records.proofs.read_record.Tie as tie
 
 -- the id and the node count, each from the place after the number before it
 id : (c : tie.After-first) →
-    (place : ℕ) × Passed badId 1 idMax (now (c .before .before .before .before .args .bytes)) place (c .first .given .0 .0) (c .first .given .0 .1 .0)
+    (place : ℕ) × Passed recordMore badId 1 idMax (now (c .before .before .before .before .args .bytes)) place (c .first .given .0 .0) (c .first .given .0 .1 .0)
 id c = two-passed _ _ _ _ _ _ _ _ _ (c .before .before .read-two .ensures) (c .first .given .1) (omega arith)
 
 count : (c : tie.After-second) →
-    (place : ℕ) × Passed badCount 1 countMax (now (c .before .before .before .before .before .before .before .before .args .bytes)) place (c .second .given .0 .0) (c .second .given .0 .1 .0)
+    (place : ℕ) × Passed recordMore badCount 1 countMax (now (c .before .before .before .before .before .before .before .before .args .bytes)) place (c .second .given .0 .0) (c .second .given .0 .1 .0)
 count c = two-passed _ _ _ _ _ _ _ _ _ (c .before .before .read-two2 .ensures) (c .second .given .1) (id (c .before .before .before .before) .1 .inside)
 
 read-two-requires : tie.Need-read-two-requires

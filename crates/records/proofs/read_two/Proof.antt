@@ -3,6 +3,7 @@ use mathlib.Core.Path.{sym, _∙_}
 use native.Mathlib.Omega.{arith}
 use denote.Ref.{now}
 use borrow.Author.Needs.{needs}
+use Rattle.numbers.specs.Number.{recordMore}
 use Rattle.records.proofs.Cases.{two-read, two-refused}
 use Rattle.records.proofs.Inside.{Passed, passed}
 use Rattle.records.proofs.read_two.Statement.{statement}
@@ -19,8 +20,8 @@ enum-told c = search needs
 
 -- the first number
 first : (c : tie.After-step) → (let a = c .before .before .before .before .args in
-    Passed (a .broken) 1 (a .high) (now (a .bytes)) (a .at) (c .step .given .0 .0) (c .step .given .0 .1 .0))
-first c = passed _ _ _ _ _ _ _ _ (c .before .before .read-ranged .ensures) (c .step .given .1) (omega arith)
+    Passed recordMore (a .broken) 1 (a .high) (now (a .bytes)) (a .at) (c .step .given .0 .0) (c .step .given .0 .1 .0))
+first c = passed _ _ _ _ _ _ _ _ _ (c .before .before .read-ranged .ensures) (c .step .given .1) (omega arith)
 
 returns : tie.Need-returns
 returns c = let e = c .enum-told .given .1 in rw e (sym (two-refused _ _ _ (sym (c .before .before .read-ranged .ensures) ∙ e)))

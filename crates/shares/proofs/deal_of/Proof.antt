@@ -5,7 +5,7 @@ use native.Mathlib.Omega.{arith}
 use borrow.Author.Needs.{needs}
 use Rattle.shares.specs.declared.Kinds.{Kinds}
 use Rattle.shares.specs.Heavy.{heavies}
-use Rattle.shares.specs.Inner.Words.{threadsAt}
+use Rattle.shares.specs.Words.{threadsAt}
 use Rattle.shares.proofs.Deals.{deal-heavy, deal-light, deal-both}
 use Rattle.shares.proofs.Fair.{heavy-whole, light-whole}
 use Rattle.shares.proofs.deal_of.Statement.{statement}

@@ -3,7 +3,7 @@ use mathlib.Core.Path.{_≡_, sym, _∙_}
 use mathlib.Core.Logic.{⊎-elim}
 use Prim.Native.Nat.{_+_, _*_, _-_, _≤_}
 use native.Mathlib.Omega.{arith}
-use Rattle.shares.specs.Inner.Words.{threadsAt, lengthAt}
+use Rattle.shares.specs.Words.{threadsAt, lengthAt}
 use Rattle.shares.proofs.Heavies.{Counted, counted-none, counted-heavy, counted-light, heavies-le, heavy-under, light-under}
 use Rattle.shares.proofs.kinds_of.Statement.{statement}
 use Rattle.shares.proofs.kinds_of.Tie as tie

@@ -5,7 +5,7 @@ use native.Mathlib.Omega.{arith}
 use Rattle.plain.specs.Sums.{sumTo}
 use Rattle.plain.proofs.Lists.{Filled, fill-zeros, fill-more}
 use Rattle.plain.proofs.Sums.{sumTo-none, sumTo-more, sum-under}
-use Rattle.shares.specs.Inner.Words.{numeratorAt}
+use Rattle.shares.specs.Words.{numeratorAt}
 use Rattle.shares.proofs.sums_of.Statement.{statement}
 use Rattle.shares.proofs.sums_of.Tie as tie
 

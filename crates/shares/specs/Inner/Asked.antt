@@ -6,7 +6,7 @@ use Rattle.plain.specs.At.{at}
 use Rattle.plain.specs.Sums.{sumTo}
 use Rattle.tables.specs.Limits.{periodMax, countMax, runMax, workMax, overMax}
 use Rattle.shares.specs.declared.Deal.{Deal}
-use Rattle.shares.specs.Inner.Words.{threadsAt, lengthAt, numeratorAt}
+use Rattle.shares.specs.Words.{threadsAt, lengthAt, numeratorAt}
 use Rattle.shares.specs.Inner.Spans.{offsetBy, spanBy}
 use Rattle.shares.specs.Inner.Segmented.{Segmented}
 

@@ -6,7 +6,7 @@ use lib.ListN.{length}
 use Rattle.plain.specs.At.{at}
 use Rattle.shares.specs.declared.Deal.{Deal}
 use Rattle.shares.specs.Deal.{numerator}
-use Rattle.shares.specs.Inner.Words.{threadsAt, lengthAt, numeratorAt}
+use Rattle.shares.specs.Words.{threadsAt, lengthAt, numeratorAt}
 
 -- the words after the numerators are written: the third of each of s triples, all others as they were
 pub record Numbered (d : Deal) (T C P s : ℕ) (w₀ w : List ℕ) : Type 0 where

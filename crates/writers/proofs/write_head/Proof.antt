@@ -7,9 +7,10 @@ use native.Mathlib.Omega.{arith}
 use lib.ListN.{length}
 use denote.Ref.{now}
 use borrow.Author.Needs.{needs}
+use Rattle.numbers.specs.Number.{recordMore}
+use Rattle.numbers.proofs.Written.{Wrote, wrote-none, word-number, wrote-number, wrote-more, room-rest, room-after}
 use Rattle.writers.specs.Record.{numbersWritten}
 use Rattle.writers.specs.Inner.Parts.{headNumbers}
-use Rattle.writers.proofs.Putting.{Wrote, wrote-number, wrote-more, wrote-none, room-after, room-rest, word-number}
 use Rattle.writers.proofs.write_head.Statement.{statement}
 use Rattle.writers.proofs.write_head.Tie as tie
 
@@ -19,43 +20,43 @@ room a = omega (arith, a .pre .1)
 
 write-number-requires : tie.Need-write-number-requires
 write-number-requires c κs = let a = c .before .before in
-    rw (word-number (a .args .edition) (omega arith)) (room-after (wrote-none (now (a .args .bytes)) 0) (a .args .edition ∷ []) _ (room a))
+    rw (word-number recordMore (a .args .edition) (omega arith) (omega arith)) (room-after (wrote-none recordMore (now (a .args .bytes)) 0) (a .args .edition ∷ []) _ (room a))
 
 -- the edition is written
 first : (c : tie.After-write-number) → (let a = c .before .before .before .args in
-    Wrote (now (a .bytes)) 0 (a .edition ∷ []) (c .write-number .last .0) (c .write-number .result))
-first c = wrote-number _ (omega (arith, c .before .before .before .pre .0)) (c .write-number .ensures .0) (c .write-number .ensures .1)
+    Wrote recordMore (now (a .bytes)) 0 (a .edition ∷ []) (c .write-number .last .0) (c .write-number .result))
+first c = wrote-number recordMore _ (omega (arith, c .before .before .before .pre .0)) (omega arith) (c .write-number .ensures .0) (c .write-number .ensures .1)
 
 write-number-requires-2 : tie.Need-write-number-requires-2
 write-number-requires-2 c κs = let f = c .before .before .before in let a = f .before .before .before in
-    rw (word-number (a .args .id) (omega arith)) (room-after (first f) (a .args .id ∷ []) _ (room a))
+    rw (word-number recordMore (a .args .id) (omega arith) (omega arith)) (room-after (first f) (a .args .id ∷ []) _ (room a))
 
 -- the id after it
 second : (c : tie.After-write-number2) → (let a = c .before .before .before .before .before .before .before .args in
-    Wrote (now (a .bytes)) 0 (a .edition ∷ a .id ∷ []) (c .write-number2 .last .0) (c .write-number2 .result))
+    Wrote recordMore (now (a .bytes)) 0 (a .edition ∷ a .id ∷ []) (c .write-number2 .last .0) (c .write-number2 .result))
 second c = let f = c .before .before .before .before in
-    wrote-more (first f) (wrote-number _ (omega (arith, f .before .before .before .pre .0)) (c .write-number2 .ensures .0) (c .write-number2 .ensures .1))
+    wrote-more (first f) (wrote-number recordMore _ (omega (arith, f .before .before .before .pre .0)) (omega arith) (c .write-number2 .ensures .0) (c .write-number2 .ensures .1))
 
 write-number-requires-3 : tie.Need-write-number-requires-3
 write-number-requires-3 c κs = let f = c .before .before .before in let a = f .before .before .before .before .before .before .before in
-    rw (word-number (a .args .period) (omega arith)) (room-after (second f) (a .args .period ∷ []) _ (room a))
+    rw (word-number recordMore (a .args .period) (omega arith) (omega arith)) (room-after (second f) (a .args .period ∷ []) _ (room a))
 
 -- and the period
 third : (c : tie.After-write-number3) → (let a = c .before .before .before .before .before .before .before .before .before .before .before .args in
-    Wrote (now (a .bytes)) 0 (a .edition ∷ a .id ∷ a .period ∷ []) (c .write-number3 .last .0) (c .write-number3 .result))
+    Wrote recordMore (now (a .bytes)) 0 (a .edition ∷ a .id ∷ a .period ∷ []) (c .write-number3 .last .0) (c .write-number3 .result))
 third c = let f = c .before .before .before .before in let a = f .before .before .before .before .before .before .before in
-    wrote-more (second f) (wrote-number _ (omega (arith, a .pre .0)) (c .write-number3 .ensures .0) (c .write-number3 .ensures .1))
+    wrote-more (second f) (wrote-number recordMore _ (omega (arith, a .pre .0)) (omega arith) (c .write-number3 .ensures .0) (c .write-number3 .ensures .1))
 
 write-number-requires-4 : tie.Need-write-number-requires-4
 write-number-requires-4 c κs = let f = c .before .before .before in let a = f .before .before .before .before .before .before .before .before .before .before .before in
-    rw (word-number (a .args .n) (omega arith)) (room-rest (third f) (a .args .n ∷ []) (room a))
+    rw (word-number recordMore (a .args .n) (omega arith) (omega arith)) (room-rest (third f) (a .args .n ∷ []) (room a))
 
 same-length : tie.Need-same-length
 same-length c = search needs
 
 returns : tie.Need-returns
 returns c = let m = c .before .before in let f = m .before .before .before .before in let a = f .before .before .before .before .before .before .before .before .before .before .before in
-    let w = wrote-more (third f) (wrote-number _ (omega (arith, a .pre .0)) (m .write-number4 .ensures .0) (m .write-number4 .ensures .1)) in
+    let w = wrote-more (third f) (wrote-number recordMore _ (omega (arith, a .pre .0)) (omega arith) (m .write-number4 .ensures .0) (m .write-number4 .ensures .1)) in
     (w .place ∙ zero-add _, w .bytes)
 
 pub write-head-spec : {M : Type 1} → statement M

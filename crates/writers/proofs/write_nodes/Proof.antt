@@ -5,22 +5,23 @@ use native.Mathlib.Omega.{arith}
 use lib.ListN.{length}
 use lib.Seq.{sets}
 use denote.Ref.{now}
+use Rattle.numbers.specs.Number.{recordMore}
+use Rattle.numbers.proofs.Written.{Wrote, wrote-none, wrote-length, wrote-more, room-after}
 use Rattle.writers.specs.Record.{numbersWritten, nodeNumbers}
 use Rattle.writers.specs.Inner.Parts.{nodesTo}
-use Rattle.writers.proofs.Putting.{Wrote, wrote-none, wrote-more, wrote-length, room-after}
 use Rattle.writers.proofs.Parts.{nodes-next, nodes-split}
 use Rattle.writers.proofs.write_nodes.Statement.{statement}
 use Rattle.writers.proofs.write_nodes.Tie as tie
 
 abbrev Inv-loop : tie.InvT-loop
-Inv-loop executions parents bytes₀ from n at₀ i₀ bytes at i = Wrote bytes₀ from (nodesTo executions parents i) bytes at × (i ≤ n)
+Inv-loop executions parents bytes₀ from n at₀ i₀ bytes at i = Wrote recordMore bytes₀ from (nodesTo executions parents i) bytes at × (i ≤ n)
 
 abbrev μ-loop : tie.MeasureT-loop
 μ-loop executions parents bytes₀ from n at₀ i₀ bytes at i = n - i
 
 loop-holds : tie.Need-loop-holds Inv-loop μ-loop
 unfolding nodesTo
-loop-holds c = (wrote-none _ _, omega arith)
+loop-holds c = (wrote-none recordMore _ _, omega arith)
 
 mul-write-node : tie.Need-mul-write-node Inv-loop μ-loop
 mul-write-node c = omega arith

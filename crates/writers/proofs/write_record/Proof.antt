@@ -18,13 +18,14 @@ use Rattle.refusals.specs.Answer.{accepted, refused, answerOf}
 use Rattle.refusals.specs.After.{After}
 use Rattle.tables.specs.declared.TaskTable.{TaskTable}
 use Rattle.tables.specs.Limits.{executionMax}
+use Rattle.numbers.specs.Number.{recordMore}
+use Rattle.numbers.proofs.Written.{Wrote, wrote-length, wrote-more}
 use Rattle.writers.specs.declared.Trial.{Trial}
 use Rattle.writers.specs.Record.{numbersWritten, recordOf}
 use Rattle.writers.specs.Writing.{tableOf, unless, beforeWriting}
 use Rattle.writers.specs.Inner.Parts.{headNumbers, nodesTo}
 use Rattle.writers.specs.Inner.Trial.{recordTried}
 use Rattle.writers.proofs.Cases.{HeadPassed}
-use Rattle.writers.proofs.Putting.{Wrote, wrote-length, wrote-more}
 use Rattle.writers.proofs.Table.{trial-ranges, trial-head, trial-executions, trial-place}
 use Rattle.writers.proofs.Calls.{Passes, passes, rules-tried, call-unequal, call-refused, call-accepted, parts-length, record-front}
 use Rattle.writers.proofs.write_record.Statement.{statement}
@@ -124,7 +125,7 @@ write-head-requires c κs = let k = c .before .before .before in let e = c .befo
 
 -- the head is written
 headed : (c : tie.After-write-head) → (let a = start (c .before .before .before .before) .args in
-    Wrote (now (a .bytes)) 0 (headNumbers (a .edition) (a .id) (a .period) (length (now (a .executions)))) (c .write-head .last .0) (c .write-head .result))
+    Wrote recordMore (now (a .bytes)) 0 (headNumbers (a .edition) (a .id) (a .period) (length (now (a .executions)))) (c .write-head .last .0) (c .write-head .result))
 unfolding start
 headed c = record { bytes = c .write-head .ensures .1; place = c .write-head .ensures .0 ∙ sym (zero-add _) }
 

@@ -5,7 +5,7 @@ use borrow.Author.Needs.{needs}
 use borrow.Author.Tests.{eq-eqb, ne-eqb, lt-ltb, le-ltb, not-true, not-false}
 use Rattle.refusals.specs.declared.Outcome.the-variants.{Refused}
 use Rattle.boards.specs.Change.{beforeAsking}
-use Rattle.boards.proofs.Tests.{pick-yes, pick-no}
+use Rattle.plain.proofs.Tests.{pick-yes, pick-no}
 use Rattle.boards.proofs.changes.before_asking.Statement.{statement}
 use Rattle.boards.proofs.changes.before_asking.Tie as tie
 

@@ -1,7 +1,7 @@
 -- `boards::changes::told_place` meets its contract: it asks the definition's tests in their order.
 use borrow.Author.Needs.{needs}
 use borrow.Author.Tests.{lt-ltb, le-ltb}
-use Rattle.boards.proofs.Tests.{pick-yes, pick-no}
+use Rattle.plain.proofs.Tests.{pick-yes, pick-no}
 use Rattle.boards.proofs.changes.told_place.Statement.{statement}
 use Rattle.boards.proofs.changes.told_place.Tie as tie
 

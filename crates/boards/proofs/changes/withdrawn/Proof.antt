@@ -7,7 +7,7 @@ use lib.Dec.{lit<}
 use Rattle.boards.specs.Sound.{isSound}
 use Rattle.boards.specs.Change.{withdrawn}
 use Rattle.boards.proofs.Halves.{first-holds, first-fails}
-use Rattle.boards.proofs.Tests.{pick-yes, pick-no, passed, failed}
+use Rattle.plain.proofs.Tests.{pick-yes, pick-no, passed, failed}
 use Rattle.boards.proofs.changes.withdrawn.Statement.{statement}
 use Rattle.boards.proofs.changes.withdrawn.Tie as tie
 

@@ -12,11 +12,11 @@ use Rattle.plain.proofs.Picks.{true-false}
 use Rattle.plain.proofs.Sums.{sumTo-none, sumTo-more, maxTo-none, maxTo-more}
 use Rattle.boards.specs.declared.Row.{Row}
 use Rattle.boards.specs.Row.{rowsMax, rowAt}
-use Rattle.boards.specs.Sound.{allTo}
+use Rattle.plain.specs.Tests.{allTo}
 use Rattle.boards.specs.Verdict.{sumOf, largestOf}
 use Rattle.boards.specs.Inner.Halves.{timesFit}
 use Rattle.boards.proofs.Fitting.{fit-row-le, fit-rows-le}
-use Rattle.boards.proofs.Tests.{true-both, passed, failed, allTo-none, allTo-more, allTo-false}
+use Rattle.plain.proofs.Tests.{true-both, passed, failed, allTo-none, allTo-more, allTo-false}
 use Rattle.boards.proofs.loads.times_load.Statement.{statement}
 use Rattle.boards.proofs.loads.times_load.Tie as tie
 

@@ -2,7 +2,7 @@
 use mathlib.Core.Path.{refl, sym, _∙_}
 use borrow.Author.Needs.{needs}
 use Rattle.boards.specs.Inner.Halves.{densitiesFit}
-use Rattle.boards.proofs.Tests.{pick-yes, pick-no}
+use Rattle.plain.proofs.Tests.{pick-yes, pick-no}
 use Rattle.boards.proofs.soundness.densities_fit.Statement.{statement}
 use Rattle.boards.proofs.soundness.densities_fit.Tie as tie
 

@@ -17,10 +17,11 @@ use Rattle.sets.specs.Inner.Put.{withMember}
 use Rattle.sets.proofs.Bits.{put-same, mem-or-l, with-or}
 use Rattle.boards.specs.declared.Row.{Row}
 use Rattle.boards.specs.Row.{rowsMax, rowAt}
-use Rattle.boards.specs.Sound.{both, isNew, allTo}
+use Rattle.plain.specs.Tests.{both, allTo}
+use Rattle.boards.specs.Sound.{isNew}
 use Rattle.boards.specs.Inner.Halves.{densitiesFit, densitiesSound}
 use Rattle.boards.proofs.Sound.{idsOf, new-same, new-apart}
-use Rattle.boards.proofs.Tests.{true-both, pick-yes, pick-no, passed, failed, allTo-none, allTo-more, allTo-false}
+use Rattle.plain.proofs.Tests.{true-both, pick-yes, pick-no, passed, failed, allTo-none, allTo-more, allTo-false}
 use Rattle.boards.proofs.soundness.densities_sound.Statement.{statement}
 use Rattle.boards.proofs.soundness.densities_sound.Tie as tie
 

@@ -1,7 +1,7 @@
 -- `boards::soundness::is_between` meets its contract: it asks the definition's two tests in their order.
 use mathlib.Core.Path.{refl}
 use borrow.Author.Tests.{le-leb, lt-leb}
-use Rattle.boards.proofs.Tests.{pick-yes, pick-no}
+use Rattle.plain.proofs.Tests.{pick-yes, pick-no}
 use Rattle.boards.proofs.soundness.is_between.Statement.{statement}
 use Rattle.boards.proofs.soundness.is_between.Tie as tie
 

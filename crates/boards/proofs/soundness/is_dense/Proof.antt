@@ -4,7 +4,7 @@ use native.Mathlib.Nat.{mul-le-mul}
 use native.Mathlib.Omega.{arith}
 use borrow.Author.Needs.{needs}
 use Rattle.tables.specs.Limits.{countMax, densityMax}
-use Rattle.boards.proofs.Tests.{pick-yes, pick-no, passed, failed, between-true}
+use Rattle.plain.proofs.Tests.{pick-yes, pick-no, passed, failed, between-true}
 use Rattle.boards.proofs.soundness.is_dense.Statement.{statement}
 use Rattle.boards.proofs.soundness.is_dense.Tie as tie
 

@@ -8,8 +8,9 @@ use borrow.Author.Tests.{eq-eqb, ne-eqb}
 use lib.Dec.{eqb}
 use Rattle.plain.specs.At.{at}
 use Rattle.plain.specs.Pick.{pick}
-use Rattle.boards.specs.Sound.{allTo, isNew}
-use Rattle.boards.proofs.Tests.{true-both, pick-no, allTo-none, allTo-more, allTo-false}
+use Rattle.plain.specs.Tests.{allTo}
+use Rattle.boards.specs.Sound.{isNew}
+use Rattle.plain.proofs.Tests.{true-both, pick-no, allTo-none, allTo-more, allTo-false}
 use Rattle.boards.proofs.soundness.is_new.Statement.{statement}
 use Rattle.boards.proofs.soundness.is_new.Tie as tie
 

@@ -7,8 +7,8 @@ use native.Mathlib.Omega.{arith}
 use borrow.Author.Needs.{needs}
 use borrow.Author.Tests.{lt-leb, le-leb}
 use Rattle.tables.specs.Limits.{periodMax, runMax, overMax}
-use Rattle.boards.specs.Sound.{between}
-use Rattle.boards.proofs.Tests.{pick-yes, pick-no, passed, failed, between-true}
+use Rattle.plain.specs.Tests.{between}
+use Rattle.plain.proofs.Tests.{pick-yes, pick-no, passed, failed, between-true}
 use Rattle.boards.proofs.soundness.is_timed.Statement.{statement}
 use Rattle.boards.proofs.soundness.is_timed.Tie as tie
 

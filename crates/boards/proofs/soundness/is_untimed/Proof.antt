@@ -1,7 +1,7 @@
 -- `boards::soundness::is_untimed` meets its contract: it asks the definition's three tests in their order.
 use mathlib.Core.Path.{refl}
 use borrow.Author.Tests.{eq-eqb, ne-eqb}
-use Rattle.boards.proofs.Tests.{pick-yes, pick-no}
+use Rattle.plain.proofs.Tests.{pick-yes, pick-no}
 use Rattle.boards.proofs.soundness.is_untimed.Statement.{statement}
 use Rattle.boards.proofs.soundness.is_untimed.Tie as tie
 

@@ -2,7 +2,7 @@
 use borrow.Author.Needs.{needs}
 use borrow.Author.Tests.{eq-eqb, ne-eqb}
 use Rattle.boards.specs.Inner.Halves.{timesFit}
-use Rattle.boards.proofs.Tests.{pick-yes, pick-no}
+use Rattle.plain.proofs.Tests.{pick-yes, pick-no}
 use Rattle.boards.proofs.soundness.times_fit.Statement.{statement}
 use Rattle.boards.proofs.soundness.times_fit.Tie as tie
 

@@ -7,9 +7,9 @@ use native.Mathlib.Omega.{arith}
 use borrow.Author.Needs.{needs}
 use Rattle.boards.specs.declared.Row.{Row}
 use Rattle.boards.specs.Row.{rowsMax, rowAt}
-use Rattle.boards.specs.Sound.{allTo}
+use Rattle.plain.specs.Tests.{allTo}
 use Rattle.boards.specs.Inner.Halves.{timesFit}
-use Rattle.boards.proofs.Tests.{true-both, passed, failed, allTo-none, allTo-more, allTo-false}
+use Rattle.plain.proofs.Tests.{true-both, passed, failed, allTo-none, allTo-more, allTo-false}
 use Rattle.boards.proofs.soundness.times_sound.Statement.{statement}
 use Rattle.boards.proofs.soundness.times_sound.Tie as tie
 

@@ -1,0 +1,10 @@
+pub mod Window
+pub mod Kept
+pub mod Rules
+pub mod Own
+pub mod Asked
+pub mod Alike
+pub mod Cases
+pub mod Tests
+pub mod Passes
+pub mod Accepting

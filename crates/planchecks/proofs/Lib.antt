@@ -1,0 +1,4 @@
+pub mod Pairs
+pub mod Printable
+pub mod Fits
+pub mod Filed

@@ -1,0 +1,6 @@
+pub mod Small
+pub mod Values
+pub mod Numbers
+pub mod Parts
+pub mod Calls
+pub mod Trip
