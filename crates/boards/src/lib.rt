@@ -1,4 +1,6 @@
 // The board by value: which boards are sound, where a row stands, the verdict, and what each call changes.
+#![tactic(auto)]
+
 ghost use Rattle.std.specs.Prelude.{◌≡◌, replicate};
 ghost use Rattle.boards.specs.Row.{free_row, rows_max};
 

@@ -1,4 +1,6 @@
 // The counts of a whole building's file: each of its records planned alone.
+#![tactic(auto)]
+
 ghost use Rattle.std.specs.Prelude.{◌≡◌, ℕ, ◌≤◌, ◌<◌, ltb, length};
 ghost use Rattle.plain.specs.Pick.{one};
 ghost use Rattle.plain.specs.At.{at};

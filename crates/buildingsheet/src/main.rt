@@ -1,4 +1,6 @@
 // Prints the sheet of the building on standard input, of which it reads the first 65,536 bytes.
+#![tactic(auto)]
+
 use libc::{STDERR_FILENO, STDIN_FILENO, STDOUT_FILENO};
 
 fn main() {

@@ -1,4 +1,6 @@
 // The text that buildingsheet prints, written into a lent buffer.
+#![tactic(auto)]
+
 ghost use Rattle.std.specs.Prelude.{◌≡◌, [], ◌∷◌, ◌≤◌, length};
 ghost use Rattle.texts.specs.Lines.{line};
 ghost use Rattle.texts.specs.Inner.Wrote.{Room, Wrote};

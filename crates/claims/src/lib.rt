@@ -1,1 +1,2 @@
 // What we promise: statements and their proofs, no code.
+#![tactic(auto)]

@@ -1,4 +1,6 @@
 // Walks a file of records, each preceded by its length.
+#![tactic(auto)]
+
 ghost use Rattle.std.specs.Prelude.{◌≡◌, ◌+◌, ◌≤◌, length};
 ghost use Rattle.files.specs.File.{record_at, part_of};
 ghost use Rattle.files.specs.Inner.Fault.{fault_of};

@@ -1,4 +1,6 @@
 // Reads the text of a Standard Task Graph into a table, and has its record written.
+#![tactic(auto)]
+
 ghost use Rattle.std.specs.Prelude.{◌≡◌, [], ℕ, ◌+◌, ◌≤◌, ◌<◌, length};
 ghost use Rattle.refusals.specs.Refusal.{refusal};
 ghost use Rattle.tables.specs.Limits.{count_max};

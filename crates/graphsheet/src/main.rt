@@ -1,4 +1,6 @@
 // Prints the sheet of the task graph on standard input, of which it reads at most 65,536 bytes, and one more that shows whether the text goes on.
+#![tactic(auto)]
+
 use libc::{STDERR_FILENO, STDIN_FILENO, STDOUT_FILENO};
 
 fn main() {

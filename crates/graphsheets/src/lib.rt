@@ -1,4 +1,6 @@
 // The text that graphsheet prints, written into a lent buffer.
+#![tactic(auto)]
+
 ghost use Rattle.std.specs.Prelude.{◌≡◌, ◌≤◌, length};
 ghost use Rattle.tables.specs.Limits.{period_max};
 ghost use Rattle.tables.specs.Range.{InRange};

@@ -1,4 +1,6 @@
 // The words of a text, from the left: where each begins, and the number of one that is all digits.
+#![tactic(auto)]
+
 ghost use Rattle.std.specs.Prelude.{◌≡◌, true, ◌+◌, ◌-◌, ◌*◌, ◌≤◌, length};
 ghost use Rattle.graphwords.specs.Words.{is_parting, words_at};
 ghost use Rattle.graphwords.specs.Decimal.{is_digit};

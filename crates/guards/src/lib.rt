@@ -1,5 +1,7 @@
 // Admitting a task for a number of cores, on a board by value. Its plan is made beside the lent words and copied in once the task is kept, so that a
 // task that is turned away has written nothing.
+#![tactic(auto)]
+
 ghost use Rattle.std.specs.Prelude.{◌≡◌, ◌++◌, ◌+◌, ◌-◌, ◌*◌, ◌≤◌, ◌<◌, max, leb, length, take, drop};
 ghost use Rattle.plain.specs.Pick.{pick};
 ghost use Rattle.refusals.specs.Numbers.{verdict_no};

@@ -1,4 +1,6 @@
 // Standard input, as the programs read it.
+#![tactic(auto)]
+
 use libc::STDIN_FILENO;
 
 // Whether standard input, of which nothing was read, is at its end: a read that fails is no empty record, and no empty text.

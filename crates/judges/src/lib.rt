@@ -1,4 +1,6 @@
 // Judges a supplier's plan of a task.
+#![tactic(auto)]
+
 ghost use Rattle.std.specs.Prelude.{◌≡◌, List, ℕ, ◌≤◌, length};
 ghost use Rattle.plain.specs.At.{at};
 ghost use Rattle.tables.specs.Cost.{costed};

@@ -1,4 +1,6 @@
 // A node's list of parents, as it was given, while it is read.
+#![tactic(auto)]
+
 ghost use Rattle.std.specs.Prelude.{◌≡◌, List, [], ◌∷◌, ◌++◌, ℕ, ◌<◌};
 ghost use Rattle.tables.specs.Limits.{count_max};
 ghost use Rattle.listings.specs.Lists.{given_max};

@@ -1,4 +1,6 @@
 // Mends a task record that a sloppy editor wrote: reads it leniently, counting what is to be mended, and has its table written anew.
+#![tactic(auto)]
+
 ghost use Rattle.std.specs.Prelude.{◌≡◌, [], ◌≤◌, length};
 ghost use Rattle.refusals.specs.Refusal.{refusal};
 ghost use Rattle.tables.specs.Limits.{count_max};

@@ -1,4 +1,6 @@
 // The line that mend prints, written into a lent buffer.
+#![tactic(auto)]
+
 ghost use Rattle.std.specs.Prelude.{◌≡◌, ◌≤◌, length};
 ghost use Rattle.texts.specs.Inner.Wrote.{Wrote};
 ghost use Rattle.sheets.specs.Sheet.{sheet_max};

@@ -1,4 +1,6 @@
 // The verdict for steps that run to their end: r, and the inequality with it.
+#![tactic(auto)]
+
 ghost use Rattle.std.specs.Prelude.{◌≡◌, ◌≤◌};
 ghost use Rattle.boards.specs.Sound.{Sound};
 ghost use Rattle.boards.specs.Verdict.{longest_of, cores_max};

@@ -1,4 +1,6 @@
 // Prints the sheet of the plan on standard input, where the judge accepts it for the task before it; it reads the first 8,192 bytes.
+#![tactic(auto)]
+
 use libc::{STDERR_FILENO, STDIN_FILENO, STDOUT_FILENO};
 
 fn main() {

@@ -1,4 +1,6 @@
 // The text that plancheck prints, written into a lent buffer.
+#![tactic(auto)]
+
 ghost use Rattle.std.specs.Prelude.{◌≡◌, ◌+◌, ◌≤◌, length};
 ghost use Rattle.texts.specs.Inner.Wrote.{Wrote};
 ghost use Rattle.sheets.specs.Lines.{refused_line};

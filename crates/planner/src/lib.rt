@@ -1,4 +1,6 @@
 // The public calls over lent buffers, as C and Rust call them.
+#![tactic(auto)]
+
 ghost use Rattle.std.specs.Prelude.{◌≡◌, ◌<◌, length};
 ghost use Rattle.boards.specs.Row.{rows_max};
 ghost use Rattle.boards.specs.Change.{changed};

@@ -1,4 +1,6 @@
 // Reads a plan record into a plan's words.
+#![tactic(auto)]
+
 ghost use Rattle.std.specs.Prelude.{◌≡◌, List, [], ◌∷◌, ◌++◌, ℕ, ◌+◌, ◌*◌, ◌≤◌, length, take, drop};
 ghost use Rattle.tables.specs.Limits.{count_max};
 ghost use Rattle.numbers.specs.Number.{plan_more};

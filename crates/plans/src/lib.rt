@@ -1,4 +1,6 @@
 // A plan's words from a table, and from a record.
+#![tactic(auto)]
+
 ghost use Rattle.std.specs.Prelude.{◌≡◌, ◌++◌, ◌+◌, ◌*◌, ◌≤◌, ltb, length, drop};
 ghost use Rattle.refusals.specs.Answer.{accepted};
 ghost use Rattle.tables.specs.Cost.{costed};

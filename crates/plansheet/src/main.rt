@@ -1,4 +1,6 @@
 // Prints the sheet of the record on standard input, of which it reads at most 8,192 bytes.
+#![tactic(auto)]
+
 use libc::{STDERR_FILENO, STDIN_FILENO, STDOUT_FILENO};
 
 fn main() {

@@ -1,4 +1,6 @@
 // Reads a task record.
+#![tactic(auto)]
+
 ghost use Rattle.std.specs.Prelude.{◌≡◌, ℕ, ◌+◌, ◌≤◌, List, length};
 ghost use Rattle.tables.specs.Limits.{count_max};
 ghost use Rattle.tables.specs.Table.{empty_table};

@@ -1,4 +1,6 @@
 // Document 01's refusals: a number that says which rule was broken, the place that it is told with, and beside 10 the loop.
+#![tactic(auto)]
+
 ghost use Rattle.std.specs.Prelude.{◌≡◌};
 ghost use Rattle.refusals.specs.Refusal.{refusal, looped, refusal_of};
 ghost use Rattle.refusals.specs.InOrder.{in_order};
@@ -170,32 +172,32 @@ pub fn in_order(first: Outcome, second: Outcome, third: Outcome) -> Outcome
 
 // Each constant is the number that specs/ gives the name.
 pub fn constants_named()
-    ensures* do_value { do ⌜ (← (⟦Refusal::ENDED⟧).entry) ≡ ended ⌝ }
-    ensures* do_value_2 { do ⌜ (← (⟦Refusal::TOO_LONG⟧).entry) ≡ too_long ⌝ }
-    ensures* do_value_3 { do ⌜ (← (⟦Refusal::BAD_EDITION⟧).entry) ≡ bad_edition ⌝ }
-    ensures* do_value_4 { do ⌜ (← (⟦Refusal::BAD_ID⟧).entry) ≡ bad_id ⌝ }
-    ensures* do_value_5 { do ⌜ (← (⟦Refusal::BAD_PERIOD⟧).entry) ≡ bad_period ⌝ }
-    ensures* do_value_6 { do ⌜ (← (⟦Refusal::BAD_COUNT⟧).entry) ≡ bad_count ⌝ }
-    ensures* do_value_7 { do ⌜ (← (⟦Refusal::BAD_EXECUTION⟧).entry) ≡ bad_execution ⌝ }
-    ensures* do_value_8 { do ⌜ (← (⟦Refusal::BAD_PARENT⟧).entry) ≡ bad_parent ⌝ }
-    ensures* do_value_9 { do ⌜ (← (⟦Refusal::BYTES_FOLLOW⟧).entry) ≡ bytes_follow ⌝ }
-    ensures* do_value_10 { do ⌜ (← (⟦Refusal::LOOP⟧).entry) ≡ loop ⌝ }
-    ensures* do_value_11 { do ⌜ (← (⟦Refusal::LONG_PATH⟧).entry) ≡ long_path ⌝ }
-    ensures* do_value_12 { do ⌜ (← (⟦Refusal::ID_STANDS⟧).entry) ≡ id_stands ⌝ }
-    ensures* do_value_13 { do ⌜ (← (⟦Refusal::BOARD_FULL⟧).entry) ≡ board_full ⌝ }
-    ensures* do_value_14 { do ⌜ (← (⟦Refusal::NOT_STANDING⟧).entry) ≡ not_standing ⌝ }
-    ensures* do_value_15 { do ⌜ (← (⟦Refusal::BAD_CORES⟧).entry) ≡ bad_cores ⌝ }
-    ensures* do_value_16 { do ⌜ (← (⟦Refusal::FEW_WORDS⟧).entry) ≡ few_words ⌝ }
-    ensures* do_value_17 { do ⌜ (← (⟦Refusal::UNSOUND_BOARD⟧).entry) ≡ unsound_board ⌝ }
-    ensures* do_value_18 { do ⌜ (← (⟦Refusal::NOT_SHORTEST⟧).entry) ≡ not_shortest ⌝ }
-    ensures* do_value_19 { do ⌜ (← (⟦Refusal::WRONG_LENGTH⟧).entry) ≡ wrong_length ⌝ }
-    ensures* do_value_20 { do ⌜ (← (⟦Refusal::VERDICT_NO⟧).entry) ≡ verdict_no ⌝ }
-    ensures* do_value_21 { do ⌜ (← (⟦Refusal::NONE_RUNS⟧).entry) ≡ none_runs ⌝ }
-    ensures* do_value_22 { do ⌜ (← (⟦Refusal::BAD_LAYOUT⟧).entry) ≡ bad_layout ⌝ }
-    ensures* do_value_23 { do ⌜ (← (⟦Refusal::MANY_TASKS⟧).entry) ≡ many_tasks ⌝ }
-    ensures* do_value_24 { do ⌜ (← (⟦Refusal::BAD_PLAN⟧).entry) ≡ bad_plan ⌝ }
-    ensures* do_value_25 { do ⌜ (← (⟦Refusal::BROKEN_RULE⟧).entry) ≡ broken_rule ⌝ }
-    ensures* do_value_26 { do ⌜ (← (⟦Refusal::HIGH_COST⟧).entry) ≡ high_cost ⌝ }
-    ensures* do_value_27 { do ⌜ (← (⟦Refusal::LONG_FILE⟧).entry) ≡ long_file ⌝ }
-    ensures* do_value_28 { do ⌜ (← (⟦Refusal::BIG_WORD⟧).entry) ≡ big_word ⌝ }
+    ensures ended { Refusal.ENDED ≡ ended }
+    ensures too_long { Refusal.TOO_LONG ≡ too_long }
+    ensures bad_edition { Refusal.BAD_EDITION ≡ bad_edition }
+    ensures bad_id { Refusal.BAD_ID ≡ bad_id }
+    ensures bad_period { Refusal.BAD_PERIOD ≡ bad_period }
+    ensures bad_count { Refusal.BAD_COUNT ≡ bad_count }
+    ensures bad_execution { Refusal.BAD_EXECUTION ≡ bad_execution }
+    ensures bad_parent { Refusal.BAD_PARENT ≡ bad_parent }
+    ensures bytes_follow { Refusal.BYTES_FOLLOW ≡ bytes_follow }
+    ensures a_loop { Refusal.LOOP ≡ loop }
+    ensures long_path { Refusal.LONG_PATH ≡ long_path }
+    ensures id_stands { Refusal.ID_STANDS ≡ id_stands }
+    ensures board_full { Refusal.BOARD_FULL ≡ board_full }
+    ensures not_standing { Refusal.NOT_STANDING ≡ not_standing }
+    ensures bad_cores { Refusal.BAD_CORES ≡ bad_cores }
+    ensures few_words { Refusal.FEW_WORDS ≡ few_words }
+    ensures unsound_board { Refusal.UNSOUND_BOARD ≡ unsound_board }
+    ensures not_shortest { Refusal.NOT_SHORTEST ≡ not_shortest }
+    ensures wrong_length { Refusal.WRONG_LENGTH ≡ wrong_length }
+    ensures verdict_no { Refusal.VERDICT_NO ≡ verdict_no }
+    ensures none_runs { Refusal.NONE_RUNS ≡ none_runs }
+    ensures bad_layout { Refusal.BAD_LAYOUT ≡ bad_layout }
+    ensures many_tasks { Refusal.MANY_TASKS ≡ many_tasks }
+    ensures bad_plan { Refusal.BAD_PLAN ≡ bad_plan }
+    ensures broken_rule { Refusal.BROKEN_RULE ≡ broken_rule }
+    ensures high_cost { Refusal.HIGH_COST ≡ high_cost }
+    ensures long_file { Refusal.LONG_FILE ≡ long_file }
+    ensures big_word { Refusal.BIG_WORD ≡ big_word }
 {}

@@ -1,4 +1,6 @@
 // Refusal 10: the smallest node that is reached from itself, and one round through it.
+#![tactic(auto)]
+
 ghost use Rattle.std.specs.Prelude.{◌≡◌, true, ◌≤◌, ◌<◌};
 ghost use Rattle.sets.specs.Rule.{set_of};
 ghost use Rattle.ways.specs.Inner.Tidy.{Tidy};

@@ -1,5 +1,7 @@
 // The rules that a supplier's plan is held to, one by one. The task's own cut is read from our own plan of it. In a
 // contract, what a rule doesn't look at is left empty in `held_by`.
+#![tactic(auto)]
+
 ghost use Rattle.std.specs.Prelude.{◌≡◌, true, ◌&&◌, List, [], ℕ, ◌+◌, ◌*◌, ◌^◌, ◌≤◌, ◌<◌, eqb, leb};
 ghost use Rattle.plain.specs.At.{at};
 ghost use Rattle.plain.specs.Tests.{both};

@@ -1,4 +1,6 @@
 // The cut of a timing diagram into segments.
+#![tactic(auto)]
+
 ghost use Rattle.std.specs.Prelude.{length};
 ghost use Rattle.plain.specs.At.{at};
 ghost use Rattle.segments.specs.Inner.Ended.{length_by, CutIn};

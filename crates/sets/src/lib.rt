@@ -1,4 +1,6 @@
 // A set of nodes in one 64-bit word.
+#![tactic(auto)]
+
 ghost use Rattle.std.specs.Prelude.{◌≡◌, ◌≤◌, ◌<◌};
 ghost use Rattle.sets.specs.Member.{is_member};
 ghost use Rattle.sets.specs.Without.{without_member};

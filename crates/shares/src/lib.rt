@@ -1,4 +1,6 @@
 // Shares of the period: heavy and light segments, Q, deadline numerators, densities.
+#![tactic(auto)]
+
 ghost use Rattle.std.specs.Prelude.{◌≡◌, ◌++◌, ℕ, ◌+◌, ◌*◌, ◌-◌, ◌≤◌, ◌<◌, length, drop};
 ghost use Rattle.plain.specs.At.{at};
 ghost use Rattle.plain.specs.Sums.{sum_to};

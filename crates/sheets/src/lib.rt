@@ -1,4 +1,6 @@
 // The text that plansheet prints, written into a lent buffer.
+#![tactic(auto)]
+
 mod lines;
 
 ghost use Rattle.std.specs.Prelude.{◌≡◌, ◌≤◌, length};

@@ -1,5 +1,7 @@
 // The timing diagram of a task, run from cut to cut: the nodes that have started stand in a queue by their finishes, and the first finish that
 // is not done is the next cut.
+#![tactic(auto)]
+
 ghost use Rattle.std.specs.Prelude.{◌≡◌, List, ℕ, ◌≤◌, ◌<◌};
 ghost use Rattle.plain.specs.At.{at};
 ghost use Rattle.sets.specs.Rule.{set_of};

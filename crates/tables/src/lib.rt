@@ -1,4 +1,6 @@
 // The table of one task: what a record says, by value.
+#![tactic(auto)]
+
 ghost use Rattle.std.specs.Prelude.{◌≡◌, map, ℕ, ◌≤◌, length};
 ghost use Rattle.plain.specs.At.{at};
 ghost use Rattle.tables.specs.Limits.{edition_max, id_max, period_max, count_max, execution_max, least_execution, cost_max, run_max, million};
@@ -97,11 +99,11 @@ pub fn add_cost(executions: &mut [u64; 64], n: usize, cost: u64)
 
 // Each constant is the limit that specs/ gives the name.
 pub fn limits_named()
-    ensures* do_value { do ⌜ (← (⟦TaskTable::EDITION_MAX⟧).entry) ≡ edition_max ⌝ }
-    ensures* do_value_2 { do ⌜ (← (⟦TaskTable::ID_MAX⟧).entry) ≡ id_max ⌝ }
-    ensures* do_value_3 { do ⌜ (← (⟦TaskTable::PERIOD_MAX⟧).entry) ≡ period_max ⌝ }
-    ensures* do_value_4 { do ⌜ (← (⟦TaskTable::COUNT_MAX⟧).entry) ≡ count_max ⌝ }
-    ensures* do_value_5 { do ⌜ (← (⟦TaskTable::EXECUTION_MAX⟧).entry) ≡ execution_max ⌝ }
-    ensures* do_value_6 { do ⌜ (← (⟦TaskTable::COST_MAX⟧).entry) ≡ cost_max ⌝ }
-    ensures value { MILLION ≡ million }
+    ensures edition_max { TaskTable.EDITION_MAX ≡ edition_max }
+    ensures id_max { TaskTable.ID_MAX ≡ id_max }
+    ensures period_max { TaskTable.PERIOD_MAX ≡ period_max }
+    ensures count_max { TaskTable.COUNT_MAX ≡ count_max }
+    ensures execution_max { TaskTable.EXECUTION_MAX ≡ execution_max }
+    ensures cost_max { TaskTable.COST_MAX ≡ cost_max }
+    ensures million { MILLION ≡ million }
 {}

@@ -1,4 +1,6 @@
 // Lines of fixed words and decimals, written into a lent buffer. Each writer answers the place past what it wrote.
+#![tactic(auto)]
+
 ghost use Rattle.std.specs.Prelude.{[], ◌∷◌};
 ghost use Rattle.texts.specs.Decimal.{decimal};
 ghost use Rattle.texts.specs.Lines.{field, line};

@@ -1,4 +1,6 @@
 // The rules tried in turn: the first that is broken.
+#![tactic(auto)]
+
 ghost use Rattle.std.specs.Prelude.{◌≡◌};
 ghost use Rattle.rules.specs.Rules.{first_broken};
 ghost use Rattle.rules.specs.Inner.Own.{held_by, RulesIn, SharedIn};

@@ -1,4 +1,6 @@
 // The work and the longest execution of a task. Starts, finishes and the loop are definitions here, and come out of running the timing diagram.
+#![tactic(auto)]
+
 ghost use Rattle.std.specs.Prelude.{◌≡◌, ℕ, ◌≤◌};
 ghost use Rattle.plain.specs.At.{at};
 ghost use Rattle.ways.specs.Inner.Weights.{weight_max};

@@ -1,5 +1,7 @@
 // Runs the tables of document 01 that are not proved, tables with a cost, tables of steps that run to their end, tasks that are turned away, and the
 // records on which a tired planner's slips would show; prints a line for each.
+#![tactic(auto)]
+
 use boards::Board;
 use libc::STDOUT_FILENO;
 use refusals::Answer;

@@ -1,4 +1,6 @@
 // Writes a task record. Its numbers are all tried before the first byte is written, so that a refusal has written nothing.
+#![tactic(auto)]
+
 ghost use Rattle.std.specs.Prelude.{◌≡◌, ℕ, ◌+◌, ◌≤◌, length, take};
 ghost use Rattle.std.proofs.lemmas.List.Edits.{sets};
 ghost use Rattle.plain.specs.At.{at};
