@@ -24,7 +24,7 @@ pub use verdicts::{Peaks, peaks_of, sum_of};
 pub const ROWS: usize = 16;
 
 #[repr(C)]
-#[derive(Drop)]
+#[derive(Clone, Copy)]
 pub struct Row {
     pub id: u64,
     pub nodes: u64,
@@ -35,13 +35,13 @@ pub struct Row {
     pub over: u64,
 }
 
-#[derive(Drop)]
+#[derive(Clone, Copy)]
 pub struct Board {
     pub rows: [Row; ROWS],
 }
 
 // One row at one place, and the answer.
-#[derive(Drop)]
+#[derive(Clone, Copy)]
 pub struct Change {
     pub at: usize,
     pub row: Row,

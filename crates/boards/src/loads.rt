@@ -7,7 +7,7 @@ use crate::soundness::{densities_sound, times_fit};
 use crate::{Board, ROWS};
 
 // Whether the board is sound, and if so S and M.
-#[derive(Drop)]
+#[derive(Clone, Copy)]
 pub struct Load {
     pub sound: bool,
     pub sum: u64,

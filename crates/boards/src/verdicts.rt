@@ -22,7 +22,7 @@ pub fn sum_of(board: Board) -> u64
 }
 
 // The largest density and the longest execution.
-#[derive(Drop)]
+#[derive(Clone, Copy)]
 pub struct Peaks {
     pub largest: u64,
     pub longest: u64,

@@ -31,7 +31,7 @@ pub const NUMBERS: usize = 29;
 
 // What is counted of a file's records. refused[k] counts those that planning refuses by k; all behind it count accepted ones only.
 #[repr(C)]
-#[derive(Drop)]
+#[derive(Clone, Copy)]
 pub struct Counts {
     pub records: u64,
     pub accepted: u64,
@@ -46,14 +46,14 @@ pub struct Counts {
 
 // What a file comes to: how the walk ended, and the counts of the records before that.
 #[repr(C)]
-#[derive(Drop)]
+#[derive(Clone, Copy)]
 pub struct Building {
     pub answer: Answer,
     pub counts: Counts,
 }
 
 // What is counted of accepted records.
-#[derive(Drop)]
+#[derive(Clone, Copy)]
 pub struct Sums {
     pub accepted: u64,
     pub nodes: u64,
@@ -65,7 +65,7 @@ pub struct Sums {
 }
 
 // What one record adds: the number that refuses it, else 0 and its sums.
-#[derive(Drop)]
+#[derive(Clone, Copy)]
 pub struct Tally {
     pub refusal: u64,
     pub sums: Sums,

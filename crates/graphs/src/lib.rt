@@ -29,7 +29,7 @@ const TASKS_MAX: u64 = TaskTable::COUNT_MAX - DUMMIES;
 const HASH: u8 = 35;
 
 // A value, the place of its word and the place past it; or a refusal.
-#[derive(Drop)]
+#[derive(Clone, Copy)]
 pub enum Taken {
     Read {
         value: u64,
@@ -40,14 +40,14 @@ pub enum Taken {
 }
 
 // A task's time beside the set of its predecessors; where one of its words is refused, that refusal.
-#[derive(Drop)]
+#[derive(Clone, Copy)]
 pub struct Task {
     pub time: u64,
     pub set: Taken,
 }
 
 // What a text comes to: its table, and whether a comment ended the reading. A refusal has a table that is all zeros.
-#[derive(Drop)]
+#[derive(Clone, Copy)]
 pub struct Graph {
     pub outcome: Outcome,
     pub table: TaskTable,

@@ -10,7 +10,7 @@ ghost use Rattle.graphwords.specs.Inner.Found.{cap, capped, found_in, Begins};
 const CAP: u64 = 65_536;
 
 // The first word from a place on.
-#[derive(Drop)]
+#[derive(Clone, Copy)]
 pub enum Found {
     Ended,
     Other {

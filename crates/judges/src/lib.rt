@@ -16,7 +16,7 @@ use refusals::{Answer, Outcome, Refusal};
 use tables::TaskTable;
 
 // What judging comes to: the answer, and where that is no refusal, the task's period, work and path.
-#[derive(Drop)]
+#[derive(Clone, Copy)]
 pub struct Judging {
     pub answer: Answer,
     pub period: u64,

@@ -7,7 +7,7 @@ ghost use Rattle.listings.specs.Lists.{given_max};
 ghost use Rattle.listings.specs.Inner.Listing.{listing_of};
 
 // What is known of it so far: its set, the least number that would still ascend, and the counts.
-#[derive(Drop)]
+#[derive(Clone, Copy)]
 pub struct Listing {
     pub set: u64,
     pub low: u64,

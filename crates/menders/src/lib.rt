@@ -21,21 +21,21 @@ use tables::TaskTable;
 const PARENTS_MAX: u64 = 255;
 
 // How far the given record was read, and how many of the numbers before that place are padded.
-#[derive(Drop)]
+#[derive(Clone, Copy)]
 pub struct Spot {
     pub at: usize,
     pub padded: u64,
 }
 
 // A value and the spot after it, or a refusal.
-#[derive(Drop)]
+#[derive(Clone, Copy)]
 pub enum Taken {
     Read { value: u64, spot: Spot },
     Refused(Refusal),
 }
 
 // A list of parents that was read, its set as the value; or a refusal beside zeros.
-#[derive(Drop)]
+#[derive(Clone, Copy)]
 pub struct Listed {
     pub taken: Taken,
     pub reordered: u64,
@@ -43,7 +43,7 @@ pub struct Listed {
 }
 
 // A node's execution beside its list of parents; where the execution is refused, its refusal.
-#[derive(Drop)]
+#[derive(Clone, Copy)]
 pub struct Node {
     pub execution: u64,
     pub list: Listed,
@@ -51,7 +51,7 @@ pub struct Node {
 
 // What is to be mended of a record: numbers padded, lists reordered, parents dropped.
 #[repr(C)]
-#[derive(Drop)]
+#[derive(Clone, Copy)]
 pub struct Counts {
     pub padded: u64,
     pub reordered: u64,
@@ -59,7 +59,7 @@ pub struct Counts {
 }
 
 // What a given record comes to. A refusal has a table that is all zeros, and no counts.
-#[derive(Drop)]
+#[derive(Clone, Copy)]
 pub struct Draft {
     pub outcome: Outcome,
     pub table: TaskTable,
@@ -68,7 +68,7 @@ pub struct Draft {
 
 // The answer, and the counts of what was mended. C reads both structs as seven words in a row.
 #[repr(C)]
-#[derive(Drop)]
+#[derive(Clone, Copy)]
 pub struct Mending {
     pub answer: Answer,
     pub counts: Counts,

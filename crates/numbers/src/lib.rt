@@ -8,7 +8,7 @@ ghost use Rattle.numbers.specs.Shortest.{shortest};
 ghost use Rattle.numbers.specs.Inner.Word.{word_more};
 
 // A number with the bytes it takes; or its fault. A padded number has its value and length all the same.
-#[derive(Drop)]
+#[derive(Clone, Copy)]
 pub enum Number {
     Value { value: u64, length: usize },
     Ended,

@@ -94,7 +94,7 @@ fn write_nodes<'a>(
 }
 
 // What planning a table comes to: the answer, and where that is no refusal, the table's work, path and longest execution.
-#[derive(Drop)]
+#[derive(Clone, Copy)]
 pub struct Planning {
     pub answer: Answer,
     pub work: u64,

@@ -18,21 +18,21 @@ use refusals::{Outcome, Refusal};
 use tables::TaskTable;
 
 // A value with the place after it, or a refusal.
-#[derive(Drop)]
+#[derive(Clone, Copy)]
 pub enum Step {
     Read { value: u64, next: usize },
     Refused(Refusal),
 }
 
 // The value of a first number beside the step of the one after it; where the first is refused, its refusal.
-#[derive(Drop)]
+#[derive(Clone, Copy)]
 pub struct Two {
     pub value: u64,
     pub step: Step,
 }
 
 // What a record comes to. A refusal has a table that is all zeros.
-#[derive(Drop)]
+#[derive(Clone, Copy)]
 pub struct Reading {
     pub outcome: Outcome,
     pub table: TaskTable,

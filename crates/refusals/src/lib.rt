@@ -8,7 +8,7 @@ ghost use Rattle.refusals.specs.Answer.{accepted, refused, answer_of};
 ghost use Rattle.refusals.specs.Numbers.{ended, too_long, bad_edition, bad_id, bad_period, bad_count, bad_execution, bad_parent, bytes_follow, loop, long_path, id_stands, board_full, not_standing, bad_cores, few_words, unsound_board, not_shortest, wrong_length, verdict_no, none_runs, bad_layout, many_tasks, bad_plan, broken_rule, high_cost, long_file, big_word};
 
 // A number of the table; a place: a byte of the input, for 10 a node, else 0; for 10 the nodes of a loop, else none.
-#[derive(Drop)]
+#[derive(Clone, Copy)]
 pub struct Refusal {
     pub number: u64,
     pub place: usize,
@@ -107,7 +107,7 @@ impl Refusal {
 }
 
 // Whether something was accepted; else the refusal, whole.
-#[derive(Drop)]
+#[derive(Clone, Copy)]
 pub enum Outcome {
     Accepted,
     Refused(Refusal),
@@ -115,7 +115,7 @@ pub enum Outcome {
 
 // What a public call answers: refusal 0 is acceptance, and then value is what the call returns; otherwise place and ring are the refusal's.
 #[repr(C)]
-#[derive(Drop)]
+#[derive(Clone, Copy)]
 pub struct Answer {
     pub refusal: u64,
     pub place: u64,

@@ -17,7 +17,7 @@ ghost use Rattle.shares.specs.Inner.Written.{Numbered};
 ghost use Rattle.shares.specs.Inner.Asked.{DensityIn, HeavyIn, NumeratorIn, DealIn, FillIn, SumsIn, NodesIn};
 
 // How the period is dealt out: Q, what a heavy segment gets per unit of work, what a light one gets per unit of length.
-#[derive(Drop)]
+#[derive(Clone, Copy)]
 pub struct Deal {
     pub over: u64,
     pub heavy: u64,
@@ -25,7 +25,7 @@ pub struct Deal {
 }
 
 // The number of heavy segments, their work, and the length of the light ones.
-#[derive(Drop)]
+#[derive(Clone, Copy)]
 pub struct Kinds {
     pub heavies: usize,
     pub work: u64,
@@ -176,7 +176,7 @@ pub fn fill_nodes<'a>(
 }
 
 // The total and the largest of a task's densities.
-#[derive(Drop)]
+#[derive(Clone, Copy)]
 pub struct Figures {
     pub sum: u64,
     pub largest: u64,

@@ -6,7 +6,7 @@ ghost use Rattle.sheets.specs.Lines.{task_line, triple_line, triple_at, triples_
 use texts::Triple;
 
 // What the first line gives of a task, beside the plan's Q.
-#[derive(Drop)]
+#[derive(Clone, Copy)]
 pub struct Head {
     pub id: u64,
     pub period: u64,
@@ -15,7 +15,7 @@ pub struct Head {
 }
 
 // Whose triples: a plan has one for each segment and one for each node.
-#[derive(Drop)]
+#[derive(Clone, Copy)]
 pub enum Part {
     Segments,
     Nodes,

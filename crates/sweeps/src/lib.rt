@@ -11,21 +11,21 @@ ghost use Rattle.diagrams.specs.Inner.Moved.{MovedOn};
 ghost use Rattle.diagrams.specs.Inner.Traced.{SweepIn, Traced};
 
 // A cut of the time: its number and its time.
-#[derive(Drop)]
+#[derive(Clone, Copy)]
 pub struct Cut {
     pub number: usize,
     pub time: u64,
 }
 
 // The started nodes: how many, and their set.
-#[derive(Drop)]
+#[derive(Clone, Copy)]
 pub struct Started {
     pub tail: usize,
     pub set: u64,
 }
 
 // The nodes that are done: how many, their set, and who waited for the last of them.
-#[derive(Drop)]
+#[derive(Clone, Copy)]
 pub struct Done {
     pub head: usize,
     pub set: u64,
@@ -142,7 +142,7 @@ fn nobody(n: usize) -> Done
 }
 
 // What a run comes to: its last cut, whose number is that of the segments and whose time is the path, and the number of nodes done.
-#[derive(Drop)]
+#[derive(Clone, Copy)]
 pub struct Swept {
     pub cut: Cut,
     pub done: usize,

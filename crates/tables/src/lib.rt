@@ -9,7 +9,7 @@ ghost use Rattle.tables.specs.Runs.{all_zero};
 ghost use Rattle.tables.specs.Cost.{with_cost};
 
 // A parent set is one word: bit p of parents[v] is set where v waits for p.
-#[derive(Drop)]
+#[derive(Clone, Copy)]
 pub struct TaskTable {
     pub edition: u64,
     pub id: u64,

@@ -52,7 +52,7 @@ pub fn put_line_of_two(out: &mut [u8], at: usize, a: &[u8], x: u64, b: &[u8], y:
 }
 
 // Three numbers of a line.
-#[derive(Drop)]
+#[derive(Clone, Copy)]
 pub struct Triple {
     pub x: u64,
     pub y: u64,

@@ -7,7 +7,7 @@ ghost use Rattle.ways.specs.Inner.Weights.{weight_max};
 ghost use Rattle.ways.specs.Totals.{work_of, longest_of};
 
 // The sum of the weights, and the greatest.
-#[derive(Drop)]
+#[derive(Clone, Copy)]
 pub struct Weighed {
     pub work: u64,
     pub longest: u64,

@@ -16,7 +16,7 @@ use refusals::{Answer, Outcome, Refusal};
 use tables::TaskTable;
 
 // How far a trial of the record's numbers came: the place after the last one, or, where one is out of its range, that one's own.
-#[derive(Drop)]
+#[derive(Clone, Copy)]
 pub struct Trial {
     pub outcome: Outcome,
     pub next: usize,
