@@ -1,6 +1,5 @@
 -- `ways::weigh` meets its contract: after v turns work and longest are those of the first v weights, and 64 weights fit a word.
 use mathlib.Core.Path.{◌≡◌, sym}
-use mathlib.Core.Logic.{⊎_elim}
 use Prim.Native.Nat.{◌-◌, ◌≤◌}
 use native.Mathlib.Omega.{arith}
 use Rattle.plain.specs.At.{at}
@@ -10,6 +9,7 @@ use Rattle.ways.specs.Inner.Weights.{weight_max}
 use Rattle.ways.specs.Totals.{work_of, longest_of}
 use Rattle.ways.proofs.Totals.{work-le}
 use Rattle.ways.proofs.weigh.Goals as goal
+use Rattle.ways.proofs.weigh.Goals.{then-longest-weight, else-longest-weight}
 
 pub loop-v-init : goal.loop-v-init
 loop-v-init c = (omega arith, sym (sum_to-none _), sym (max_to-none _))
@@ -26,7 +26,7 @@ loop-v-preserved c =
     let f = at c.args.weights.now in
     let sums = sum_to-more c.loop-v.v f in
     let most = max_to-more c.loop-v.v f in
-    (omega arith, omega arith, ⊎_elim (λ w. omega arith) (λ w. omega arith) c.if-longest-weight.branch)
+    (omega arith, omega arith, elim c.if-longest-weight.branch [ then-longest-weight w ↦ omega arith | else-longest-weight w ↦ omega arith ])
 
 pub returns : goal.returns
 unfolding work_of longest_of
