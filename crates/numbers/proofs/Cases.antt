@@ -1,18 +1,15 @@
 -- A number case by case: each test that its reader makes on the bytes picks one clause of the definition.
 use Prim.Native.Nat.{ℕ, zero, suc, ◌+◌, ◌-◌, ◌*◌, ◌%◌, ◌≤◌, ◌<◌}
 use mathlib.Core.Path.{◌≡◌, refl}
-use mathlib.Core.Logic.{⊎_elim}
+use mathlib.Core.Logic.{◌⊎◌, inl, inr}
 use mathlib.Core.Bool.{Bool, true, false}
 use mathlib.Core.List.{List, [], ◌∷◌}
 use native.Mathlib.Omega.{arith}
 use lib.ListN.{length, drop}
 use lib.Dec.{ltb}
 use borrow.Author.Tests.{lt-ltb, le-ltb, ltb-false, eq-eqb, ne_eqb}
-use types.Run.{OneOf}
-use denote.Enum.Declared.{tag_of}
 use Rattle.plain.specs.At.{at}
 use Rattle.plain.specs.Pick.{pick}
-use Rattle.numbers.specs.contracts.Number.{the_type}
 use Rattle.numbers.specs.declared.Number.{Number}
 use Rattle.numbers.specs.declared.Number.TheVariants.{Value, Ended, TooLong, NotShortest}
 use Rattle.numbers.specs.Number.{before, number}
@@ -39,8 +36,7 @@ not_last [] b h e l = absurd (omega arith)
 not_last (x ∷ s) b h e l = rw (← e, le-ltb b 128 l)
 
 -- one byte decides, unless more are needed
-pub decided : (more : ℕ) (s : List ℕ) (r : Number) → r ≡ number 0 s → OneOf (0 ∷ 1 ∷ 3 ∷ []) (tag_of the_type r) →
-    r ≡ number more s
+pub decided : (more : ℕ) (s : List ℕ) (r : Number) → r ≡ number 0 s → (r ≡ TooLong → ⊥) → r ≡ number more s
 unfolding number
 decided more [] r e h = e
 decided zero (b ∷ s) r e h = e
@@ -48,7 +44,7 @@ decided (suc more) (b ∷ s) r e h = by (ltb b 128) e
   where
     by : (t : Bool) → r ≡ pick t (Value b 1) TooLong → r ≡ pick t (Value b 1) (before b (number more s))
     by true d = d
-    by false d = absurd (⊎_elim (λ x. omega arith) (⊎_elim (λ x. omega arith) (λ x. omega arith)) (rw d at h))
+    by false d = absurd (h d)
 
 -- more are needed: the first byte has its top bit set
 pub needs-more : (s : List ℕ) → number 0 s ≡ TooLong → (0 < length s) × (128 ≤ at s 0)
@@ -80,12 +76,10 @@ unfolding before
 before-some b v n e = simp (ne_eqb _ _ e)
 
 -- a rest that ended or was too long stays so
-pub before-cut : (b : ℕ) (r : Number) → OneOf (1 ∷ 2 ∷ []) (tag_of the_type r) → before b r ≡ r
+pub before-cut : (b : ℕ) (r : Number) → (r ≡ Ended) ⊎ (r ≡ TooLong) → before b r ≡ r
 unfolding before
-before-cut b (Value v n) h = absurd (⊎_elim (λ e. omega arith) (λ e. omega arith) h)
-before-cut b Ended h = refl
-before-cut b TooLong h = refl
-before-cut b (NotShortest v n) h = absurd (⊎_elim (λ e. omega arith) (λ e. omega arith) h)
+before-cut b r (inl h) = rw h
+before-cut b r (inr h) = rw h
 
 -- a byte with its top bit set before a number that is not 0; so a number of two bytes, and of three
 pub longer : (more a x : ℕ) (s : List ℕ) (v n : ℕ) → a ≡ x → 128 ≤ a → number more s ≡ Value v n → 0 < v →

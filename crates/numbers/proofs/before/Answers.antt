@@ -2,7 +2,6 @@
 use Prim.Native.Nat.{◌^◌, ◌≤◌, ◌<◌}
 use mathlib.Core.Path.{sym, ap, ◌∙◌}
 use native.Mathlib.Omega.{arith}
-use borrow.Author.Rules.{rules}
 use Rattle.numbers.specs.Number.{before}
 use Rattle.numbers.proofs.Cases.{before-none, before-some, before-cut}
 use Rattle.numbers.proofs.Bounds.{value-bounded, padded-bounded, room}

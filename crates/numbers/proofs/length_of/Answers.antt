@@ -1,9 +1,7 @@
 -- `numbers::length_of` meets its contract: each byte that is counted leaves the form of what is left.
-use Prim.Native.Nat.{ℕ, suc, ◌+◌, ◌^◌, ◌<◌}
-use mathlib.Core.Path.{◌≡◌, ap}
+use mathlib.Core.Path.{ap}
 use native.Mathlib.Omega.{arith}
 use lib.ListN.{length as len}
-use Rattle.numbers.specs.Shortest.{shortest}
 use Rattle.numbers.specs.Inner.Word.{word_more}
 use Rattle.numbers.proofs.Shortest.{shortest-last, shortest-next, shortest-length}
 use Rattle.numbers.proofs.length_of.Goals as goal

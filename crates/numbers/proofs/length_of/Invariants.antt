@@ -1,10 +1,8 @@
 use Prim.Native.Nat.{ℕ, suc, ◌+◌, ◌^◌, ◌<◌}
-use mathlib.Core.Path.{◌≡◌, ap}
-use native.Mathlib.Omega.{arith}
+use mathlib.Core.Path.{◌≡◌}
 use lib.ListN.{length as len}
 use Rattle.numbers.specs.Shortest.{shortest}
 use Rattle.numbers.specs.Inner.Word.{word_more}
-use Rattle.numbers.proofs.Shortest.{shortest-last, shortest-next, shortest-length}
 use Rattle.numbers.proofs.length_of.Given as goal
 
 abbrev pub invariant-loop-rest : goal.invariant-loop-rest

@@ -1,7 +1,6 @@
 -- `numbers::one_byte` meets its contract: its tests are those of `number`.
 use mathlib.Core.Path.{sym}
 use native.Mathlib.Omega.{arith}
-use borrow.Author.Rules.{rules}
 use Rattle.numbers.proofs.Cases.{none, last, not_last}
 use Rattle.numbers.proofs.one_byte.Goals as goal
 

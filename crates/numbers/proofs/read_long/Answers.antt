@@ -2,7 +2,6 @@
 use Prim.Native.Nat.{◌≤◌, ◌<◌}
 use mathlib.Core.Path.{sym}
 use native.Mathlib.Omega.{arith}
-use borrow.Author.Rules.{rules}
 use borrow.Author.Tests.{ltb-true}
 use Rattle.numbers.proofs.Cases.{needs-more, two_bytes, three-bytes}
 use Rattle.numbers.proofs.read_long.Goals as goal
