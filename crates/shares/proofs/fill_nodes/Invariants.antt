@@ -1,0 +1,18 @@
+use mathlib.Core.Path.{◌≡◌, refl}
+use Prim.Native.Nat.{◌-◌, ◌≤◌}
+use native.Mathlib.Omega.{arith}
+use lib.ListN.{length, length-set}
+use Rattle.plain.specs.At.{at}
+use Rattle.tables.specs.Limits.{count_max}
+use Rattle.shares.specs.Density.{millionths}
+use Rattle.shares.specs.Inner.Spans.{offset_by, span_by}
+use Rattle.shares.proofs.Triples.{Tripled, tripled-none, tripled-more}
+use Rattle.shares.proofs.fill_nodes.Given as goal
+
+abbrev pub invariant-loop-v : goal.invariant-loop-v
+invariant-loop-v l =
+    (l.v ≤ l.n) × (length l.out ≡ length l.initial.out)
+    × Tripled (offset_by l.sums l.first) (span_by l.sums l.first l.last) (λ k. millionths (at l.executions k) l.over (span_by l.sums l.first l.last k)) l.initial.out l.v l.out
+
+abbrev pub decreases-loop-v : goal.decreases-loop-v
+decreases-loop-v l = l.n - l.v

@@ -1,0 +1,14 @@
+use mathlib.Core.Path.{◌≡◌, sym}
+use Prim.Native.Nat.{◌+◌, ◌*◌, ◌-◌, ◌≤◌}
+use native.Mathlib.Omega.{arith}
+use borrow.Author.Rules.{rules}
+use Rattle.plain.specs.At.{at}
+use Rattle.shares.specs.Figures.{smallest_to}
+use Rattle.shares.proofs.Smallest.{smallest-none, smallest-more}
+use Rattle.shares.proofs.shortest_of.Given as goal
+
+abbrev pub invariant-loop-v : goal.invariant-loop-v
+invariant-loop-v l = (l.v ≤ l.n) × (l.shortest ≡ smallest_to l.v (λ w. at l.nodes (3 * w + 1)))
+
+abbrev pub decreases-loop-v : goal.decreases-loop-v
+decreases-loop-v l = l.n - l.v
