@@ -1,10 +1,9 @@
 -- `graphwords::read_word` meets its contract: the loop goes along one word, and its three ends are the word's end, a byte that is no digit, and the text's end.
-use Prim.Native.Nat.{◌-◌, ◌≤◌, ◌<◌}
+use Prim.Native.Nat.{◌<◌}
 use mathlib.Core.Path.{◌≡◌, sym, ap, subst, ◌∙◌}
 use mathlib.Core.Bool.{false}
 use native.Mathlib.Omega.{arith}
 use lib.ListN.{length}
-use borrow.Author.Rules.{rules}
 use borrow.Author.Tests.{not-true, not-false}
 use Rattle.plain.specs.At.{at}
 use Rattle.graphwords.specs.declared.Found.{Found}

@@ -1,7 +1,6 @@
 -- `graphwords::with_digit` meets its contract: a digit is 48 to 57, and the test is the cap's.
 use mathlib.Core.Path.{sym}
 use native.Mathlib.Omega.{arith}
-use borrow.Author.Rules.{rules}
 use Rattle.graphwords.proofs.Capped.{capped-below, capped-past, digit_low}
 use Rattle.graphwords.proofs.with_digit.Goals as goal
 

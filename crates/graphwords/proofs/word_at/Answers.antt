@@ -1,11 +1,7 @@
 -- `graphwords::word_at` meets its contract: the words from the place that was reached are those from the first place on, since only partings were passed.
-use Prim.Native.Nat.{◌-◌, ◌≤◌}
-use mathlib.Core.Path.{◌≡◌, refl, sym, ◌∙◌}
+use mathlib.Core.Path.{refl, sym, ◌∙◌}
 use native.Mathlib.Omega.{arith}
-use lib.ListN.{length}
-use borrow.Author.Rules.{rules}
 use borrow.Author.Tests.{not-true, not-false}
-use Rattle.graphwords.specs.Words.{words_at}
 use Rattle.graphwords.proofs.Words.{words-on}
 use Rattle.graphwords.proofs.word_at.Goals as goal
 

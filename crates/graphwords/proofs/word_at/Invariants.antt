@@ -1,11 +1,7 @@
 use Prim.Native.Nat.{◌-◌, ◌≤◌}
-use mathlib.Core.Path.{◌≡◌, refl, sym, ◌∙◌}
-use native.Mathlib.Omega.{arith}
+use mathlib.Core.Path.{◌≡◌}
 use lib.ListN.{length}
-use borrow.Author.Rules.{rules}
-use borrow.Author.Tests.{not-true, not-false}
 use Rattle.graphwords.specs.Words.{words_at}
-use Rattle.graphwords.proofs.Words.{words-on}
 use Rattle.graphwords.proofs.word_at.Given as goal
 
 abbrev pub invariant-loop-at : goal.invariant-loop-at
