@@ -1,7 +1,6 @@
 -- `texts::put_field` meets its contract: the word, the decimal and the byte are three writes, each where the one before ends.
 use Prim.Native.Nat.{◌<◌}
 use native.Mathlib.Omega.{arith}
-use borrow.Author.Rules.{rules}
 use lib.ListN.{length}
 use Rattle.texts.specs.Lines.{field}
 use Rattle.texts.proofs.Writes.{◌then◌, kept, wrote-byte, first-room, next-room}
@@ -9,7 +8,7 @@ use Rattle.texts.proofs.put_field.Goals as goal
 use Rattle.texts.proofs.put_field.Goals.{After-put_decimal-end}
 
 -- the byte has room after the decimal
-room : (c : After-put_decimal-end) → c.put_decimal-end.result < length c.put_decimal-end.new.0
+room : (c : After-put_decimal-end) → c.put_decimal-end.result < length c.put_decimal-end.new.out
 unfolding field
 room c =
     omega (arith, (next-room (c.put_text-number.ensures then c.put_decimal-end.ensures) c.requires).fits)

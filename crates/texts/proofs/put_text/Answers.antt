@@ -1,10 +1,7 @@
 -- `texts::put_text` meets its contract: after i turns the first i bytes of the text are written.
-use Prim.Native.Nat.{◌+◌, ◌-◌, ◌≤◌}
 use native.Mathlib.Nat.{add-zero}
 use native.Mathlib.Omega.{arith}
-use lib.ListN.{length, take}
 use lib.Seq.{take_all}
-use Rattle.texts.specs.Inner.Wrote.{Wrote}
 use Rattle.texts.proofs.Writes.{kept, wrote_none, wrote-more}
 use Rattle.texts.proofs.put_text.Goals as goal
 
