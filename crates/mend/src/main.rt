@@ -2,25 +2,26 @@
 // byte more is read, since that shows 9.
 #![tactic(auto)]
 
-use libc::{STDERR_FILENO, STDIN_FILENO, STDOUT_FILENO};
+use std::io::Write;
 
 // So many bytes hold every mended record.
 const RECORD_MAX: usize = 4_361;
 
-fn main() {
+fn main(rt: HostRuntime) {
+    let mut stdin = rt.stdin();
     let mut given = [0u8; 65_809];
     let mut bytes = [0u8; RECORD_MAX];
     let mut out = [0u8; sheets::SHEET_MAX];
-    let got = io::read_full(STDIN_FILENO, &mut given);
+    let got = inputs::read_full(&mut stdin, &mut given);
     if got == 0 {
-        if !inputs::at_end() {
-            io::write_all(STDERR_FILENO, b"mend: standard input cannot be read\n");
+        if !inputs::at_end(&mut stdin) {
+            eprintln!(rt; "mend: standard input cannot be read").ok();
             return;
         }
     }
     let mending = menders::mend(&given[..got], &mut bytes);
     let answer = mending.answer;
     let n = mendlines::line(mending, &mut out);
-    io::write_all(STDOUT_FILENO, &bytes[..answer.value as usize]);
-    io::write_all(STDERR_FILENO, &out[..n]);
+    rt.stdout().write_all(&bytes[..answer.value as usize]).ok();
+    rt.stderr().write_all(&out[..n]).ok();
 }

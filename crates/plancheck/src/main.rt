@@ -1,18 +1,19 @@
 // Prints the sheet of the plan on standard input, where the judge accepts it for the task before it; it reads the first 8,192 bytes.
 #![tactic(auto)]
 
-use libc::{STDERR_FILENO, STDIN_FILENO, STDOUT_FILENO};
+use std::io::Write;
 
-fn main() {
+fn main(rt: HostRuntime) {
+    let mut stdin = rt.stdin();
     let mut input = [0u8; planchecks::INPUT_MAX];
     let mut out = [0u8; sheets::SHEET_MAX];
-    let got = io::read_full(STDIN_FILENO, &mut input);
+    let got = inputs::read_full(&mut stdin, &mut input);
     if got == 0 {
-        if !inputs::at_end() {
-            io::write_all(STDERR_FILENO, b"plancheck: standard input cannot be read\n");
+        if !inputs::at_end(&mut stdin) {
+            eprintln!(rt; "plancheck: standard input cannot be read").ok();
             return;
         }
     }
     let n = planchecks::sheet(&input[..got], &mut out);
-    io::write_all(STDOUT_FILENO, &out[..n]);
+    rt.stdout().write_all(&out[..n]).ok();
 }

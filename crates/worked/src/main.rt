@@ -3,17 +3,12 @@
 #![tactic(auto)]
 
 use boards::Board;
-use libc::STDOUT_FILENO;
 use refusals::Answer;
 
 // A table's name, and whether it came out as worked by hand.
-fn say(name: &[u8], right: bool) {
-    io::write_all(STDOUT_FILENO, name);
-    if right {
-        io::write_all(STDOUT_FILENO, b": as worked\n");
-    } else {
-        io::write_all(STDOUT_FILENO, b": DIFFERS\n");
-    }
+fn say(rt: &impl Print, name: &str, right: bool) {
+    let told = if right { "as worked" } else { "DIFFERS" };
+    println!(rt; "{name}: {told}").ok();
 }
 
 // Whether the words begin with those expected.
@@ -32,45 +27,54 @@ fn begins_with(words: &[u64], expected: &[u64]) -> bool {
 }
 
 // A record whose plan with a cost is the expected words, and no word more.
-fn planned_with_cost(name: &[u8], record: &[u8], cost: u64, expected: &[u64]) {
+fn planned_with_cost(rt: &impl Print, name: &str, record: &[u8], cost: u64, expected: &[u64]) {
     let mut words = [0u64; plans::WORDS_MAX];
     let answer = plans::plan(record, &mut words, cost);
     if answer.refusal != 0 {
-        say(name, false);
+        say(rt, name, false);
         return;
     }
     if answer.value != expected.len() as u64 {
-        say(name, false);
+        say(rt, name, false);
         return;
     }
-    say(name, begins_with(&words, expected));
+    say(rt, name, begins_with(&words, expected));
 }
 
 // The same without a cost.
-fn planned(name: &[u8], record: &[u8], expected: &[u64]) {
-    planned_with_cost(name, record, 0, expected);
+fn planned(rt: &impl Print, name: &str, record: &[u8], expected: &[u64]) {
+    planned_with_cost(rt, name, record, 0, expected);
 }
 
 // A record that with a cost is refused by this number at this place, with no set of nodes beside it.
-fn refused_with_cost(name: &[u8], record: &[u8], cost: u64, number: u64, place: u64) {
+fn refused_with_cost(
+    rt: &impl Print,
+    name: &str,
+    record: &[u8],
+    cost: u64,
+    number: u64,
+    place: u64,
+) {
     let mut words = [0u64; plans::WORDS_MAX];
     let answer = plans::plan(record, &mut words, cost);
     say(
+        rt,
         name,
         answer.refusal == number && answer.place == place && answer.ring == 0,
     );
 }
 
 // The same without a cost.
-fn refused(name: &[u8], record: &[u8], number: u64, place: u64) {
-    refused_with_cost(name, record, 0, number, place);
+fn refused(rt: &impl Print, name: &str, record: &[u8], number: u64, place: u64) {
+    refused_with_cost(rt, name, record, 0, number, place);
 }
 
 // A record that is refused by 10, with this node named and this set of nodes beside it.
-fn round(name: &[u8], record: &[u8], node: u64, ring: u64) {
+fn round(rt: &impl Print, name: &str, record: &[u8], node: u64, ring: u64) {
     let mut words = [0u64; plans::WORDS_MAX];
     let answer = plans::plan(record, &mut words, 0);
     say(
+        rt,
         name,
         answer.refusal == 10 && answer.place == node && answer.ring == ring,
     );
@@ -95,44 +99,44 @@ fn is_admitted(board: Board, record: &[u8], cores: u64, number: u64) -> bool {
 }
 
 // An admission with what is expected.
-fn admitted(name: &[u8], board: Board, record: &[u8], cores: u64, number: u64) {
-    say(name, is_admitted(board, record, cores, number));
+fn admitted(rt: &impl Print, name: &str, board: Board, record: &[u8], cores: u64, number: u64) {
+    say(rt, name, is_admitted(board, record, cores, number));
 }
 
 // A record's task that is turned away by 20 on the empty board, however many cores there are.
-fn never_kept(name: &[u8], record: &[u8]) {
+fn never_kept(rt: &impl Print, name: &str, record: &[u8]) {
     let mut cores = 1;
     while cores < 65 {
         if !is_admitted(Board::empty(), record, cores, 20) {
-            say(name, false);
+            say(rt, name, false);
             return;
         }
         cores += 1;
     }
-    say(name, true);
+    say(rt, name, true);
 }
 
 // A verdict that is yes or no, as expected.
-fn told(name: &[u8], answer: Answer, yes: u64) {
-    say(name, answer.refusal == 0 && answer.value == yes);
+fn told(rt: &impl Print, name: &str, answer: Answer, yes: u64) {
+    say(rt, name, answer.refusal == 0 && answer.value == yes);
 }
 
 // The verdict for a board that holds this record's task alone, noted with a cost.
-fn alone(name: &[u8], record: &[u8], cost: u64, cores: u64, yes: u64) {
+fn alone(rt: &impl Print, name: &str, record: &[u8], cost: u64, cores: u64, yes: u64) {
     let board = noted(Board::empty(), record, cost);
-    told(name, boards::asked(board, cores), yes);
+    told(rt, name, boards::asked(board, cores), yes);
 }
 
 // The verdict for a board whose steps run to their end.
-fn to_end(name: &[u8], board: Board, cores: u64, yes: u64) {
-    told(name, overheads::asked_to_end(board, cores), yes);
+fn to_end(rt: &impl Print, name: &str, board: Board, cores: u64, yes: u64) {
+    told(rt, name, overheads::asked_to_end(board, cores), yes);
 }
 
 // A withdrawal from the empty board.
-fn not_withdrawn(name: &[u8], id: u64) {
+fn not_withdrawn(rt: &impl Print, name: &str, id: u64) {
     let change = boards::withdrawn(Board::empty(), id);
     let answer = change.answer;
-    say(name, answer.refusal == 14 && answer.place == 0);
+    say(rt, name, answer.refusal == 14 && answer.place == 0);
 }
 
 // Plans in words: Q, s, n, the segments' triples, the nodes' triples.
@@ -171,70 +175,87 @@ const PARENTS_PAY_FOR_THEMSELVES: [u64; 18] = [
 ];
 
 // The tables that are not starred, and the two numbers written out.
-fn tables() {
+fn tables(rt: &impl Print) {
     planned(
-        b"period 10, one heavy segment",
+        rt,
+        "period 10, one heavy segment",
         b"\x01\x07\x0a\x01\x05\x00",
         &PERIOD_TEN,
     );
     planned(
-        b"128 is 80 01",
+        rt,
+        "128 is 80 01",
         b"\x01\x07\x80\x01\x01\x05\x00",
         &PERIOD_128,
     );
     planned(
-        b"16,777,215 is FF FF FF 07",
+        rt,
+        "16,777,215 is FF FF FF 07",
         b"\x01\x07\xff\xff\xff\x07\x01\x05\x00",
         &LONGEST,
     );
 }
 
 // The slips of a plan, each on a record where it would show.
-fn plan_slips() {
+fn plan_slips(rt: &impl Print) {
     planned(
-        b"m x (2T - P) equal to C is light",
+        rt,
+        "m x (2T - P) equal to C is light",
         b"\x01\x09\x04\x04\x02\x00\x01\x01\x00\x01\x01\x00\x01\x01\x00",
         &FOUR,
     );
     planned(
-        b"a child listed before its parent, its offset no start",
+        rt,
+        "a child listed before its parent, its offset no start",
         b"\x01\x05\x0a\x02\x03\x01\x01\x04\x00",
         &CHILD_FIRST,
     );
     planned(
-        b"a start is the latest finish of two parents",
+        rt,
+        "a start is the latest finish of two parents",
         b"\x01\x05\x0a\x03\x01\x00\x04\x00\x01\x02\x00\x01",
         &TWO_PARENTS,
     );
     planned(
-        b"deadlines are fractions of time units",
+        rt,
+        "deadlines are fractions of time units",
         b"\x01\x03\x06\x03\x03\x00\x01\x00\x01\x01\x01",
         &LISTING,
     );
 }
 
 // The slips of a join, which runs for no time.
-fn join_slips() {
+fn join_slips(rt: &impl Print) {
     planned(
-        b"a join cuts nothing and has no time, and its child begins with it",
+        rt,
+        "a join cuts nothing and has no time, and its child begins with it",
         b"\x02\x09\x0a\x04\x02\x00\x04\x00\x00\x02\x00\x01\x01\x01\x02",
         &JOINED,
     );
-    refused(b"edition 1 has no joins", b"\x01\x07\x09\x01\x00\x00", 7, 4);
     refused(
-        b"one join alone: nothing runs",
+        rt,
+        "edition 1 has no joins",
+        b"\x01\x07\x09\x01\x00\x00",
+        7,
+        4,
+    );
+    refused(
+        rt,
+        "one join alone: nothing runs",
         b"\x02\x07\x09\x01\x00\x00",
         21,
         0,
     );
     refused(
-        b"a byte after one join alone: 9 before 21",
+        rt,
+        "a byte after one join alone: 9 before 21",
         b"\x02\x07\x09\x01\x00\x00\x00",
         9,
         6,
     );
     refused(
-        b"one join that is its own parent: 21 before 10",
+        rt,
+        "one join that is its own parent: 21 before 10",
         b"\x02\x07\x09\x01\x00\x01\x00",
         21,
         0,
@@ -242,46 +263,52 @@ fn join_slips() {
 }
 
 // The slips of a cost, which each step pays once.
-fn cost_slips() {
+fn cost_slips(rt: &impl Print) {
     planned_with_cost(
-        b"5 written and a cost of 5 fill a period of 10",
+        rt,
+        "5 written and a cost of 5 fill a period of 10",
         b"\x01\x07\x0a\x01\x05\x00",
         5,
         &FIVE_AND_FIVE,
     );
     refused_with_cost(
-        b"a cost of 6 does not fit it",
+        rt,
+        "a cost of 6 does not fit it",
         b"\x01\x07\x0a\x01\x05\x00",
         6,
         11,
         0,
     );
     planned_with_cost(
-        b"a join pays nothing",
+        rt,
+        "a join pays nothing",
         b"\x02\x07\x0a\x03\x02\x00\x00\x01\x00\x01\x01\x01",
         1,
         &JOIN_PAYS_NOTHING,
     );
     planned_with_cost(
-        b"a step with two parents pays once",
+        rt,
+        "a step with two parents pays once",
         b"\x01\x07\x0a\x03\x01\x00\x01\x00\x01\x02\x00\x01",
         2,
         &PARENTS_PAY_FOR_THEMSELVES,
     );
-    refused_with_cost(b"a cost of 256: 26 before 1", b"", 256, 26, 0);
+    refused_with_cost(rt, "a cost of 256: 26 before 1", b"", 256, 26, 0);
 }
 
 // The listing's verdict, which is yes on 2 cores without a cost.
-fn cost_verdicts() {
+fn cost_verdicts(rt: &impl Print) {
     alone(
-        b"the listing with a cost of 1: no on 4 cores",
+        rt,
+        "the listing with a cost of 1: no on 4 cores",
         b"\x01\x03\x06\x03\x03\x00\x01\x00\x01\x01\x01",
         1,
         4,
         0,
     );
     alone(
-        b"and yes on 5",
+        rt,
+        "and yes on 5",
         b"\x01\x03\x06\x03\x03\x00\x01\x00\x01\x01\x01",
         1,
         5,
@@ -290,48 +317,53 @@ fn cost_verdicts() {
 }
 
 // Steps that run to their end, a task alone: r is its longest execution over its shortest deadline.
-fn alone_to_end() {
+fn alone_to_end(rt: &impl Print) {
     to_end(
-        b"an empty board: yes to the end on 1 core",
+        rt,
+        "an empty board: yes to the end on 1 core",
         Board::empty(),
         1,
         1,
     );
-    to_end(b"and on 64", Board::empty(), 64, 1);
+    to_end(rt, "and on 64", Board::empty(), 64, 1);
     let long = noted(Board::empty(), b"\x01\x07\xe8\x07\x01\x05\x00", 0);
     to_end(
-        b"5 in 1,000: r is 5,000, yes to the end on 1 core",
+        rt,
+        "5 in 1,000: r is 5,000, yes to the end on 1 core",
         long,
         1,
         1,
     );
     let half = noted(Board::empty(), b"\x01\x07\x0a\x01\x05\x00", 0);
     to_end(
-        b"5 in 10: r is 500,000, yes to the end on 1 core",
+        rt,
+        "5 in 10: r is 500,000, yes to the end on 1 core",
         half,
         1,
         1,
     );
     let tight = noted(Board::empty(), b"\x01\x07\x09\x01\x05\x00", 0);
-    to_end(b"5 in 9: no to the end on 1 core", tight, 1, 0);
+    to_end(rt, "5 in 9: no to the end on 1 core", tight, 1, 0);
     let listing = noted(
         Board::empty(),
         b"\x01\x03\x06\x03\x03\x00\x01\x00\x01\x01\x01",
         0,
     );
     to_end(
-        b"the listing: r is 1,250,000, no to the end on 2 cores",
+        rt,
+        "the listing: r is 1,250,000, no to the end on 2 cores",
         listing,
         2,
         0,
     );
-    to_end(b"and on 64", listing, 64, 0);
+    to_end(rt, "and on 64", listing, 64, 0);
 }
 
 // The slips of that verdict: a join counted, the longest and the shortest of one task alone, r rounded down.
-fn to_end_slips() {
+fn to_end_slips(rt: &impl Print) {
     alone(
-        b"a task with a join: yes on 4 cores",
+        rt,
+        "a task with a join: yes on 4 cores",
         b"\x02\x09\x0a\x04\x02\x00\x04\x00\x00\x02\x00\x01\x01\x01\x02",
         0,
         4,
@@ -343,27 +375,30 @@ fn to_end_slips() {
         0,
     );
     to_end(
-        b"a join has no deadline to be the shortest: no to the end",
+        rt,
+        "a join has no deadline to be the shortest: no to the end",
         joined,
         4,
         0,
     );
     let one = noted(Board::empty(), b"\x01\x01\x0c\x01\x03\x00", 0);
-    to_end(b"3 in 12 alone: yes to the end on 1 core", one, 1, 1);
+    to_end(rt, "3 in 12 alone: yes to the end on 1 core", one, 1, 1);
     let both = noted(one, b"\x01\x02\x0f\x01\x05\x00", 0);
     to_end(
-        b"with 5 in 15: 5 over 12, rounded up, no to the end on 1 core",
+        rt,
+        "with 5 in 15: 5 over 12, rounded up, no to the end on 1 core",
         both,
         1,
         0,
     );
-    to_end(b"and yes on 2", both, 2, 1);
+    to_end(rt, "and yes on 2", both, 2, 1);
 }
 
 // The slips of a guard: a task that just fits turned away, one that does not fit kept, a rule in another place.
-fn guard_slips() {
+fn guard_slips(rt: &impl Print) {
     admitted(
-        b"5 in 5 just fits 1 core",
+        rt,
+        "5 in 5 just fits 1 core",
         Board::empty(),
         b"\x01\x07\x05\x01\x05\x00",
         1,
@@ -371,65 +406,72 @@ fn guard_slips() {
     );
     let full = noted(Board::empty(), b"\x01\x07\x05\x01\x05\x00", 0);
     admitted(
-        b"5 in 1,000 beside it: 20",
+        rt,
+        "5 in 1,000 beside it: 20",
         full,
         b"\x01\x08\xe8\x07\x01\x05\x00",
         1,
         20,
     );
     admitted(
-        b"with the id that stands: 12 before 20",
+        rt,
+        "with the id that stands: 12 before 20",
         full,
         b"\x01\x07\xe8\x07\x01\x05\x00",
         1,
         12,
     );
-    admitted(b"for 0 cores: 15 before 1", full, b"", 0, 15);
+    admitted(rt, "for 0 cores: 15 before 1", full, b"", 0, 15);
     never_kept(
-        b"the chain is turned away on every count",
+        rt,
+        "the chain is turned away on every count",
         b"\x01\x08\x03\x03\x01\x00\x01\x01\x00\x01\x01\x01",
     );
 }
 
 // The slips of a board, of a reader, and of a loop.
-fn other_slips() {
-    not_withdrawn(b"id 0 finds no free row to withdraw", 0);
+fn other_slips(rt: &impl Print) {
+    not_withdrawn(rt, "id 0 finds no free row to withdraw", 0);
     alone(
-        b"densities are rounded up: no on 1 core",
+        rt,
+        "densities are rounded up: no on 1 core",
         b"\x01\x06\x03\x03\x01\x00\x01\x00\x01\x00",
         0,
         1,
         0,
     );
     alone(
-        b"and yes on 2",
+        rt,
+        "and yes on 2",
         b"\x01\x06\x03\x03\x01\x00\x01\x00\x01\x00",
         0,
         2,
         1,
     );
     refused(
-        b"a parent equal to the one before it",
+        rt,
+        "a parent equal to the one before it",
         b"\x01\x05\x0a\x02\x03\x00\x04\x02\x00\x00",
         8,
         9,
     );
     round(
-        b"a loop of 1, 3 and 4, on which 0 hangs and which hangs on 2",
+        rt,
+        "a loop of 1, 3 and 4, on which 0 hangs and which hangs on 2",
         b"\x01\x05\x0a\x05\x01\x01\x03\x01\x01\x04\x01\x00\x01\x01\x01\x01\x02\x02\x03",
         1,
         26,
     );
 }
 
-fn main() {
-    tables();
-    plan_slips();
-    join_slips();
-    cost_slips();
-    cost_verdicts();
-    alone_to_end();
-    to_end_slips();
-    guard_slips();
-    other_slips();
+fn main(rt: HostRuntime) {
+    tables(&rt);
+    plan_slips(&rt);
+    join_slips(&rt);
+    cost_slips(&rt);
+    cost_verdicts(&rt);
+    alone_to_end(&rt);
+    to_end_slips(&rt);
+    guard_slips(&rt);
+    other_slips(&rt);
 }
