@@ -1,6 +1,6 @@
 -- A board by value has 16 rows, because its type is an array of 16.
-use mathlib.Core.Path.{◌≡◌, sym, ◌∙◌}
-use lib.ListN.{length, length-map}
+use mathlib.Core.Path.{◌≡◌}
+use lib.ListN.{length}
 use denote.Laws.{Is}
 use denote.Struct.Laws as laws
 use Rattle.boards.specs.declared.Board.{Board}
@@ -14,4 +14,4 @@ Held b = Is type.the_row b (laws.vals type.the_type type-laws.the_laws b)
 
 -- so it has 16 rows
 pub sixteen : (b : Board) → Held b → length b.rows ≡ rows_max
-sixteen b h = sym (length-map b.rows _) ∙ (laws.owed type.the_type type-laws.the_laws b _ h).0.1.0.1
+sixteen b h = (laws.owed type.the_type type-laws.the_laws b _ h).0.1.0.1
