@@ -25,7 +25,7 @@ use Rattle.refusals.specs.declared.Outcome.TheVariants.{Accepted}
 use Rattle.records.specs.Nodes.{table_read, with_node}
 use Rattle.records.specs.Reading.{reading_of}
 use Rattle.records.specs.Expected.{Next, node_from}
-use Rattle.records.specs.Expected.Due.{edition, id, period, count, execution}
+use Rattle.records.specs.Expected.Due.{edition, execution}
 use Rattle.records.specs.Expected.Next.{number}
 use Rattle.records.proofs.Answers.{Filling}
 use Rattle.writers.specs.Record.{node_numbers, numbers_to, numbers_of, record_of, Full}

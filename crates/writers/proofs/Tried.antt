@@ -1,6 +1,6 @@
 -- The trial of a record's numbers comes to what the rules say: a number is tried as a reader would try it, at the place that its shortest form gives the
 -- next; and where a node's parents are not all nodes, the first that is none stands behind those that are.
-use Prim.Native.Nat.{ℕ, suc, ◌+◌, ◌-◌, ◌^◌, ◌≤◌, ◌<◌}
+use Prim.Native.Nat.{ℕ, suc, ◌+◌, ◌^◌, ◌≤◌, ◌<◌}
 use mathlib.Core.Path.{◌≡◌, refl, sym, ap, ap₂, ◌∙◌}
 use mathlib.Core.Logic.{◌⊎◌, inr, ⊎_elim}
 use mathlib.Core.Bool.{Bool, true, false, ◌&&◌, and-false}
