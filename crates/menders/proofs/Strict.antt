@@ -1,5 +1,5 @@
 -- A record that the reader accepts has nothing to mend: along its numbers the mender expects the same, none of them is padded, and each list ascends.
-use Prim.Native.Nat.{ℕ, zero, suc, ◌+◌, ◌-◌, ◌^◌, ◌≤◌, ◌<◌, zero-le}
+use Prim.Native.Nat.{ℕ, zero, suc, ◌+◌, ◌^◌, ◌≤◌, ◌<◌, zero-le}
 use mathlib.Core.Path.{◌≡◌, refl, ap, ap₂, subst, ◌∙◌}
 use mathlib.Core.Bool.{Bool, true, false}
 use mathlib.Core.List.{List, [], ◌∷◌, ◌++◌}
@@ -20,7 +20,7 @@ use Rattle.records.proofs.Answers as answers
 use Rattle.listings.specs.declared.Listing.{Listing}
 use Rattle.listings.specs.Lists.{list_set, ascends, reordered, dropped}
 use Rattle.menders.specs.Draft.{no_counts, drawn, draft_of}
-use Rattle.menders.specs.Given.{Due, range, Next, node_from, after, Meets}
+use Rattle.menders.specs.Given.{node_from, Meets}
 use Rattle.menders.specs.Given.Due.{edition, id, period, count, execution, parent_count, parent}
 use Rattle.menders.specs.Given.Next.{number, nothing}
 use Rattle.menders.specs.Given.Number.{as-shortest}
