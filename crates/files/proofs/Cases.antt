@@ -1,21 +1,15 @@
 -- What stands at a place, case by case: each test that the code makes picks one clause.
 use mathlib.Core.Path.{◌≡◌, refl, ap, ◌∙◌}
-use mathlib.Core.Logic.{⊎_elim}
-use mathlib.Core.List.{List, [], ◌∷◌}
+use mathlib.Core.List.{List}
 use Prim.Native.Nat.{ℕ, ◌+◌, ◌≤◌, ◌<◌}
 use lib.ListN.{length, drop}
-use native.Mathlib.Omega.{arith}
 use borrow.Author.Tests.{le-leb, lt-leb}
-use types.Run.{OneOf}
-use denote.Enum.Declared.{tag_of}
 use Rattle.refusals.specs.Numbers.{ended}
 use Rattle.refusals.specs.declared.Refusal.{Refusal}
 use Rattle.refusals.specs.Refusal.{refusal}
 use Rattle.numbers.specs.declared.Number.{Number}
 use Rattle.numbers.specs.declared.Number.TheVariants.{Value, Ended, TooLong, NotShortest}
 use Rattle.numbers.specs.Number.{number, record_more}
-use Rattle.numbers.specs.contracts.Number.{the_type}
-use Rattle.numbers.proofs.Cases.{clash}
 use Rattle.records.specs.declared.Step.TheVariants.{Read, Refused}
 use Rattle.records.specs.Ranged.{step_of}
 use Rattle.records.proofs.Cases.{then-read, then-refused}
@@ -26,13 +20,6 @@ use Rattle.files.specs.Inner.Fault.{fault_of}
 pub length-is : (file : List ℕ) (at : ℕ) (r : Number) → number record_more (drop at file) ≡ r → length_at file at ≡ step_of at at r
 unfolding length_at
 length-is file at r e = ap (step_of at at) e
-
--- what is left where no value was found
-pub not-value : (found : Number) → OneOf (1 ∷ 2 ∷ 3 ∷ []) (tag_of the_type found) → (v n : ℕ) → found ≡ Value v n → ⊥
-not-value (Value w m) h v n e = ⊎_elim (λ x. omega arith) (⊎_elim (λ x. omega arith) (λ x. omega arith)) h
-not-value Ended h v n e = clash cc
-not-value TooLong h v n e = clash cc
-not-value (NotShortest w m) h v n e = clash cc
 
 -- 1, 2 and 18 stand at the length alike
 pub length-fault : (file : List ℕ) (at : ℕ) (r : Number) → number record_more (drop at file) ≡ r → ((v n : ℕ) → r ≡ Value v n → ⊥) → length_at file at ≡ Refused (refusal (fault_of r) at)
