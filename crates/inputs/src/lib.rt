@@ -1,13 +1,15 @@
 // Standard input, as the programs read it.
 #![tactic(auto)]
 
-ghost use Rattle.std.specs.Prelude.{◌≤◌, length};
+ghost use Rattle.std.specs.Prelude.{◌≤◌, length, take};
+ghost use Rattle.std.specs.Io.KnownBytes.{Consumes};
 
 use std::io::Read;
 
 // Reads until the buffer is full, the input ends or a read fails; as many bytes were put at the buffer's start.
 pub fn read_full<R: Read>(reader: &mut R, buffer: &mut [u8]) -> usize
-    ensures { result ≤ length buffer.new }
+    ensures in_bounds { result ≤ length buffer.new }
+    ensures bytes { Consumes (R.remaining reader.old) (R.remaining reader.new) (take result buffer.new) }
 {
     let mut done: usize = 0;
     while done < buffer.len() {
