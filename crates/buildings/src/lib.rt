@@ -166,7 +166,7 @@ fn sums_of(words: &[u64], period: u64, planning: Planning) -> Sums
 // What a table that was read adds, with the cost; its plan stays in the words.
 fn tally_table(words: &mut [u64], table: TaskTable, cost: u64) -> Tally
     requires { Plannable (costed table cost) × (words_max ≤ length words.old) }
-    ensures* { λ r. ⌜ r ≡ on_table (λ r. refused_tally r.number) task_tally (costed table cost) ⌝ }
+    ensures { result ≡ on_table (λ r. refused_tally r.number) task_tally (costed table cost) }
 {
     let planning = plans::plan_table(words, table, cost, Answer::accepted(0));
     let answer = planning.answer;
