@@ -1,9 +1,5 @@
 -- Each call where the lent board doesn't have 16 rows: soundness begins with that number, so the board isn't sound, the call is refused as its rule says, and nothing is touched.
-use mathlib.Core.Path.{◌≡◌, refl, sym, ap, ◌∙◌}
-use mathlib.Core.Bool.{Bool, false}
-use mathlib.Core.List.{List}
-use Prim.Native.Nat.{ℕ}
-use lib.ListN.{length}
+use Rattle.std.proofs.Common.{◌≡◌, refl, sym, ap, ◌∙◌, Bool, false, List, ℕ, length}
 use borrow.Author.Tests.{ne_eqb}
 use Rattle.refusals.specs.Numbers.{unsound_board}
 use Rattle.refusals.specs.declared.Answer.{Answer}

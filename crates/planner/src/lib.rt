@@ -1,4 +1,4 @@
-// The public calls over lent buffers, as C and Rust call them.
+// The public calls over lent buffers; `planner_c` exports them to C.
 #![tactic(auto)]
 
 ghost use Rattle.std.specs.Prelude.{◌≡◌, ◌<◌, length};
@@ -36,22 +36,15 @@ fn apply(board: &mut [Row], change: Change) -> Answer
 }
 
 // Plans the task of a record, each step with the cost, into the words; the value is the number of words.
-#[unsafe(no_mangle)]
-pub extern "C" fn planner_plan(bytes: &[u8], words: &mut [u64], cost: u64) -> Answer
+pub fn planner_plan(bytes: &[u8], words: &mut [u64], cost: u64) -> Answer
     ensures { PlanAllows bytes.now words.old cost (record { answer = result; lent = words.new }) }
 {
     plans::plan(bytes, words, cost)
 }
 
 // Reads a record, plans its task, each step with the cost, into the words and puts it on the board; the value is the row filled.
-#[unsafe(no_mangle)]
-pub extern "C" fn planner_note(
-    bytes: &[u8],
-    words: &mut [u64],
-    board: &mut [Row],
-    cost: u64,
-) -> Answer
-    ensures { NoteAllows bytes.now words.entry.now board.old cost (record { answer = result; lent = record { words = words.exit.now; rows = board.new } }) }
+pub fn planner_note(bytes: &[u8], words: &mut [u64], board: &mut [Row], cost: u64) -> Answer
+    ensures { NoteAllows bytes.now words.old board.old cost (record { answer = result; lent = record { words = words.new; rows = board.new } }) }
 {
     if board.len() != ROWS {
         return admissions::no_board(words.len(), cost);
@@ -61,15 +54,14 @@ pub extern "C" fn planner_note(
 }
 
 // The same for a gateway with so many cores: a task with which the verdict for them would be no is turned away.
-#[unsafe(no_mangle)]
-pub extern "C" fn planner_admit(
+pub fn planner_admit(
     bytes: &[u8],
     words: &mut [u64],
     board: &mut [Row],
     cores: u64,
     cost: u64,
 ) -> Answer
-    ensures { AdmitAllows bytes.now words.entry.now board.old cores cost (record { answer = result; lent = record { words = words.exit.now; rows = board.new } }) }
+    ensures { AdmitAllows bytes.now words.old board.old cores cost (record { answer = result; lent = record { words = words.new; rows = board.new } }) }
 {
     if board.len() != ROWS {
         return admissions::no_board(words.len(), cost); // 15 comes after 17
@@ -79,8 +71,7 @@ pub extern "C" fn planner_admit(
 }
 
 // Takes the task off the board; the value is the row freed.
-#[unsafe(no_mangle)]
-pub extern "C" fn planner_withdraw(board: &mut [Row], id: u64) -> Answer
+pub fn planner_withdraw(board: &mut [Row], id: u64) -> Answer
     ensures { WithdrawAllows board.old id (record { answer = result; lent = board.new }) }
 {
     if board.len() != ROWS {
@@ -91,8 +82,7 @@ pub extern "C" fn planner_withdraw(board: &mut [Row], id: u64) -> Answer
 }
 
 // The verdict for a number of cores: the value is 1 for yes and 0 for no. The board is lent to be read, so its rows after the call are those before it.
-#[unsafe(no_mangle)]
-pub extern "C" fn planner_ask(board: &[Row], cores: u64) -> Answer
+pub fn planner_ask(board: &[Row], cores: u64) -> Answer
     ensures { AskAllows board.now cores (record { answer = result; lent = board.now }) }
 {
     if board.len() != ROWS {
@@ -102,8 +92,7 @@ pub extern "C" fn planner_ask(board: &[Row], cores: u64) -> Answer
 }
 
 // The verdict for a number of cores where steps run to their end, answered and lent as planner_ask.
-#[unsafe(no_mangle)]
-pub extern "C" fn planner_ask_to_end(board: &[Row], cores: u64) -> Answer
+pub fn planner_ask_to_end(board: &[Row], cores: u64) -> Answer
     ensures { AskToEndAllows board.now cores (record { answer = result; lent = board.now }) }
 {
     if board.len() != ROWS {
@@ -113,8 +102,7 @@ pub extern "C" fn planner_ask_to_end(board: &[Row], cores: u64) -> Answer
 }
 
 // Writes the record of a task from its executions and its parent sets, one of each for a node; the value is the number of bytes.
-#[unsafe(no_mangle)]
-pub extern "C" fn planner_write_record(
+pub fn planner_write_record(
     executions: &[u64],
     parents: &[u64],
     bytes: &mut [u8],
@@ -128,48 +116,42 @@ pub extern "C" fn planner_write_record(
 }
 
 // Mends the record that a sloppy editor wrote; the value is the number of bytes, and three counts stand beside the answer.
-#[unsafe(no_mangle)]
-pub extern "C" fn planner_mend(given: &[u8], bytes: &mut [u8]) -> Mending
+pub fn planner_mend(given: &[u8], bytes: &mut [u8]) -> Mending
     ensures { MendAllows given.now bytes.old (record { after = record { answer = result.answer; lent = bytes.new }; counts = result.counts }) }
 {
     menders::mend(given, bytes)
 }
 
 // Reads the text of a Standard Task Graph and writes its record, with the caller's id and period; the value is the number of bytes.
-#[unsafe(no_mangle)]
-pub extern "C" fn planner_read_graph(text: &[u8], bytes: &mut [u8], id: u64, period: u64) -> Answer
+pub fn planner_read_graph(text: &[u8], bytes: &mut [u8], id: u64, period: u64) -> Answer
     ensures { GraphAllows text.now bytes.old id period (record { answer = result; lent = bytes.new }) }
 {
     graphs::write_graph(text, bytes, id, period)
 }
 
 // Walks a whole building's file and plans each of its records alone, with the cost; the value is the number of records, and the counts stand beside the answer.
-#[unsafe(no_mangle)]
-pub extern "C" fn planner_building(file: &[u8], cost: u64) -> Building
+pub fn planner_building(file: &[u8], cost: u64) -> Building
     ensures { BuildingAllows file.now cost result }
 {
     buildings::count_building(file, cost)
 }
 
 // Reads a plan record into the words; the value is its id.
-#[unsafe(no_mangle)]
-pub extern "C" fn planner_read_plan(plan: &[u8], words: &mut [u64]) -> Answer
+pub fn planner_read_plan(plan: &[u8], words: &mut [u64]) -> Answer
     ensures { ReadPlanAllows plan.now words.old (record { answer = result; lent = words.new }) }
 {
     planreaders::read_plan(plan, words)
 }
 
 // Writes a plan's words as a plan record with an id; the value is the number of bytes.
-#[unsafe(no_mangle)]
-pub extern "C" fn planner_write_plan(words: &[u64], bytes: &mut [u8], id: u64) -> Answer
+pub fn planner_write_plan(words: &[u64], bytes: &mut [u8], id: u64) -> Answer
     ensures { WritePlanAllows words.now bytes.old id (record { answer = result; lent = bytes.new }) }
 {
     planwriters::write_plan(words, bytes, id)
 }
 
 // Judges a supplier's plan record for a task record, each step with the cost; the value is the id, and the plan's words are written where it is accepted.
-#[unsafe(no_mangle)]
-pub extern "C" fn planner_judge(bytes: &[u8], plan: &[u8], words: &mut [u64], cost: u64) -> Answer
+pub fn planner_judge(bytes: &[u8], plan: &[u8], words: &mut [u64], cost: u64) -> Answer
     ensures { JudgeAllows bytes.now plan.now words.old cost (record { answer = result; lent = words.new }) }
 {
     let judging = judges::judge(bytes, plan, words, cost);

@@ -3,7 +3,7 @@
 -- Assumes `Logic`.
 use mathlib.Core.List.{List, [], ◌∷◌}
 use seplogic.Ra.Ura.{Ura}
-use mir.Syntax.{Name, Place, Body, seq, call, Opd as Operand}
+use mir.Syntax.{Callee, Place, Body, seq, call, Opd as Operand}
 use mir.Val.{Val}
 use base.Logic.{SProp, ent, sep, emp, id⊢, via, mono_r}
 use prog.Wp.{Env, Calls, Loops}
@@ -38,7 +38,7 @@ module _ {M : Type 1} {𝓤 : Ura M} (𝓛 : Logic 𝓤) (T : Ended) (c : Clause
   abbrev R : RattleType
   R = type_at T.signature.result κs
 
-  module _ {K : Type 0} {Γ : List (Item 𝓤)} {E : Env 𝓤 H} {C : Calls 𝓤 H} {Λ : Loops 𝓤 H} {p : Post 𝓤 H} {f : Name} {xs : List Operand} {d : Place} {rest : Body} where
+  module _ {K : Type 0} {Γ : List (Item 𝓤)} {E : Env 𝓤 H} {C : Calls 𝓤 H} {Λ : Loops 𝓤 H} {p : Post 𝓤 H} {f : Callee} {xs : List Operand} {d : Place} {rest : Body} where
     -- any callee: it gets the tokens of its lifetimes and what its parameters own, and gives the tokens back, with the last values of its `&mut`s. Of the result, which is plain data, the relation to
     -- its machine value is enough
     pub calls_by : K → FmC 𝓤 H 𝓛.laws C → Triple 𝓤 (C f) Con → (bounds : AllOutlive T.signature.lifetimes T.signature.outlives κs) (g : (c κs a).ghost) → ent 𝓤 (emp 𝓤) ((c κs a).requires g)
@@ -50,7 +50,7 @@ module _ {M : Type 1} {𝓤 : Ura M} (𝓛 : Logic 𝓤) (T : Ended) (c : Clause
         let P : SProp 𝓤 = on_entry 𝓛 T.signature κs qs a vss in
         let y : Con.Ghost = ((κs, qs, bounds, a, vss), g) in
         use2 𝓛 (raw (Con.pre y)) (via 𝓤 (sep 𝓤 P (emp 𝓤)) (∗emp 𝓤 P) (mono_r 𝓤 P asked)) $ calls_at t fm Con known y (os _) (λ w.
-        use1 𝓛 (later (some (λ (r : R.Denot). (tokens ⊛ ‵ (R.own r (w ∷ []))) ⊛ some (λ (ws : Lasts T κs a). ‵ (lasts T κs a ws) ⊛ raw ((c κs a).ensures g r (at_exit T κs a ws)))))) (id⊢ 𝓤 _) $
+        use1 𝓛 (later (some (λ (r : R.Denot). (tokens ⊛ ‵ (R.own_val r (w ∷ []))) ⊛ some (λ (ws : Lasts T κs a). ‵ (lasts T κs a ws) ⊛ raw ((c κs a).ensures g r (at_exit T κs a ws)))))) (id⊢ 𝓤 _) $
         await t tt $ pick t (λ r. split t $ move t (1 ∷ []) $ pick t (λ ws. split t $ move t (1 ∷ []) $ use1 𝓛 (raw (fact 𝓤 (φ r ws))) (promised r ws) $ heard t (φ r ws) (λ e.
         -- [what is said of the last values; the tokens and the result]
         move t (1 ∷ []) $ split t $ move t (1 ∷ []) $ facts t R (Is R) (shows 𝓛 R) r (w ∷ []) (λ is. move t (1 ∷ 0 ∷ []) $ k w r ws is e)))))
@@ -65,7 +65,7 @@ module _ {M : Type 1} {𝓤 : Ura M} (𝓛 : Logic 𝓤) (ps : List (Slot 0)) (k
   abbrev Ps : List RattleType
   Ps = types_at ps tt
 
-  module _ (c : Clauses 𝓤 T) (a : Denots Ps) (vss : Valss Ps) {K : Type 0} {Γ : List (Item 𝓤)} {E : Env 𝓤 H} {C : Calls 𝓤 H} {Λ : Loops 𝓤 H} {p : Post 𝓤 H} {f : Name} {xs : List Operand} {d : Place} {rest : Body} where
+  module _ (c : Clauses 𝓤 T) (a : Denots Ps) (vss : Valss Ps) {K : Type 0} {Γ : List (Item 𝓤)} {E : Env 𝓤 H} {C : Calls 𝓤 H} {Λ : Loops 𝓤 H} {p : Post 𝓤 H} {f : Callee} {xs : List Operand} {d : Place} {rest : Body} where
     -- a callee of plain values: it takes nothing from the context
     pub calls-plain : K → FmC 𝓤 H 𝓛.laws C → Triple 𝓤 (C f) (triple_of 𝓛 T.signature (closing 𝓛 T c)) → Makess 𝓛 Ps (Ises Ps) → Are Ps (Ises Ps) a vss → (g : (c tt a).ghost) → ent 𝓤 (emp 𝓤) ((c tt a).requires g)
         → ((i : Item 𝓤) → Opds K 𝓛 (i ∷ Γ) E xs (flat Ps vss))

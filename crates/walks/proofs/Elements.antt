@@ -7,7 +7,7 @@ use native.Mathlib.Nat.{lt_of_le_of_lt, mul-le-mul_right, le_of_lt}
 use mathlib.Core.List.{List, [], ◌∷◌}
 use lib.ListN.{length}
 use seplogic.Ra.Ura.{Ura}
-use seplogic.Ra.TreeShare.{full_share}
+use base.Fraction.{full_share}
 use mir.Syntax.{Ty, ty_ptr, ty_array}
 use mir.Val.{Val, vptr}
 use base.Fml.{Fml, fsep, fat}

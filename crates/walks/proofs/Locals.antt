@@ -6,7 +6,7 @@ use Prim.Native.Nat.{ℕ, zero, suc, ◌+◌, ◌-◌, ◌*◌}
 use mathlib.Core.Option.{some}
 use mathlib.Core.List.{List, [], ◌∷◌, ◌++◌}
 use seplogic.Ra.Ura.{Ura}
-use seplogic.Ra.TreeShare.{full_share}
+use base.Fraction.{full_share}
 use lib.Dec.{T}
 use lib.ListN.{length}
 use mir.Syntax.{Sym, Ty, Tys, ty_struct, Local, local, value_local, Fn, Body, seq, assign, place, deref, field, copy, addr_of, Rv as RValue}
@@ -29,7 +29,7 @@ values (τ ∷ τs) = local τ value_local ∷ values τs
 
 -- a function without bounds on its lifetimes
 abbrev pub function : (lifetimes params : ℕ) → List Local → Body → Fn
-function n k ls b = record { lifetimes = n; outlives = []; params = k; locals = ls; body = b }
+function n k ls b = record { lifetimes = n; outlives = []; ty_params = []; givens = 0; params = k; locals = ls; body = b }
 
 -- the number of parameter k
 abbrev pub param : ℕ → ℕ
@@ -143,7 +143,7 @@ module _ {M : Type 1} {𝓤 : Ura M} {𝓛 : Logic 𝓤} {K : Type 0} where
 
   pub allocates : K → {Γ : List (Item 𝓤)} {ls : List Local} {Kt : Env 𝓤 H → Goal 𝓤 H} → ((l : Blocks) → Seq K 𝓛 (over (empties ls l) Γ) (Kt (env_of (empties ls l)))) → Seq K 𝓛 Γ (allocs ls Kt)
   allocates t {ls = []} k = alloc0 t $ k (λ _. 0)
-  allocates t {ls = local τ h ∷ ls} k = alloc1 t (λ b. allocates t (λ l. k (cons b l)))
+  allocates t {Γ = Γ} {ls = local τ h ∷ ls} {Kt = Kt} k = alloc1 t (λ b. allocates t {Γ = ‵ (froom τ b 0) ∷ ‵ (fdies τ b) ∷ Γ} {ls = ls} (λ l. k (cons b l)))
 
 module _ {M : Type 1} (𝓤 : Ura M) (H : Heap 𝓤) where
   -- the locals of E, let go

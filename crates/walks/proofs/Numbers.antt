@@ -7,8 +7,8 @@ use mathlib.Core.List.{List, [], ◌∷◌, ◌++◌}
 use lib.Dec.{lit<}
 use lib.ListN.{length, get_or}
 use seplogic.Ra.Ura.{Ura}
-use seplogic.Ra.TreeShare.{full_share}
-use mir.Syntax.{Ty, ty_int, Local, local, value_local, place, Opd as Operand, copy, int, int_neg, int_big, float, opd_true, opd_false, opd_unit, ptr_const, w64}
+use base.Fraction.{full_share}
+use mir.Syntax.{Ty, ty_int, Local, local, value_local, place, Opd as Operand, copy, int, int_neg, int_big, float, opd_true, opd_false, opd_unit, ptr_const, size_of, align_of, num_of, fn_addr, vtable, w64}
 use mir.Val.{Val, vint}
 use base.Logic.{SProp, ent, sep, emp, id⊢, via, mono_r, emp∗, snd∗}
 use base.Fml.{ftrue, fat, froom, fdies}
@@ -237,6 +237,11 @@ module _ (b k : ℕ) where
   which opd_false = 0
   which opd_unit = 0
   which (ptr_const n) = 0
+  which (size_of t) = 0
+  which (align_of t) = 0
+  which (num_of w t) = 0
+  which (fn_addr f t) = 0
+  which (vtable t u) = 0
 
   -- the operand copies one of the numbers, or it is a literal: by ((refl, refl), tt) for either
   abbrev pub HandsOne : Operand → Type 0

@@ -8,7 +8,7 @@ use Prim.Native.Nat.{ℕ, ◌<◌, ◌^◌}
 use lib.Dec.{T, ltb}
 use borrow.Author.Tests.{ltb-true}
 use seplogic.Ra.Ura.{Ura}
-use mir.Syntax.{Place, Opd as Operand, copy, int, int_neg, int_big, float, opd_true, opd_false, opd_unit, ptr_const, w64}
+use mir.Syntax.{Place, Opd as Operand, copy, int, int_neg, int_big, float, opd_true, opd_false, opd_unit, ptr_const, size_of, align_of, num_of, fn_addr, vtable, w64}
 use mir.Val.{vint}
 use prog.Wp.{Env}
 use types.Logic.{Logic}
@@ -31,6 +31,11 @@ told_by opd_true = given
 told_by opd_false = given
 told_by opd_unit = given
 told_by (ptr_const k) = given
+told_by (size_of t) = given
+told_by (align_of t) = given
+told_by (num_of w t) = given
+told_by (fn_addr f s) = given
+told_by (vtable t s) = given
 
 abbrev operand : Place → Told → Operand
 operand p given = copy p
