@@ -1,0 +1,20 @@
+use mathlib.Core.List.{List}
+use Prim.Native.Nat.{ℕ, ◌+◌, ◌-◌, ◌^◌, ◌≤◌, ◌<◌}
+use native.Mathlib.Omega.{arith}
+use lib.Bits.{bit_and}
+use lib.Count.{count_trailing_zeros}
+use Rattle.plain.specs.At.{at}
+use Rattle.sets.proofs.Walks.{Walk, walk}
+use Rattle.sets.proofs.Words.{missing}
+use Rattle.diagrams.specs.Inner.Sweep.{Sweep}
+use Rattle.diagrams.proofs.Steps.{look-room, look-fits, look-put, look-starts, look-waits}
+use Rattle.sweeps.proofs.look.Given as goal
+
+abbrev pub invariant-loop-left : goal.invariant-loop-left
+invariant-loop-left l =
+    (l.left < 2 ^ 64) × (l.past < 2 ^ 64) × ((n : ℕ) (c : ℕ → ℕ) (m en z : List ℕ) (head : ℕ)
+    → Sweep l.parents l.executions n c m en z head l.past l.number l.time l.initial.list l.initial.finishes l.initial.first l.initial.waits l.initial.tail l.initial.set l.initial.left
+    → Sweep l.parents l.executions n c m en z head l.past l.number l.time l.list l.finishes l.first l.waits l.tail l.set l.left)
+
+abbrev pub decreases-loop-left : goal.decreases-loop-left
+decreases-loop-left l = l.left
