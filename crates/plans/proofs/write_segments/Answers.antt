@@ -1,0 +1,69 @@
+-- `plans::write_segments` meets its contract: the cut leaves threads and lengths, the deal read off them is the table's own, its numerators go
+-- beside them, and the head is written last.
+use mathlib.Core.Path.{◌≡◌, ap, ◌∙◌}
+use native.Mathlib.Omega.{arith}
+use borrow.Author.Rules.{rules}
+use lib.ListN.{length-set}
+use Rattle.tables.specs.declared.TaskTable.{TaskTable}
+use Rattle.segments.specs.Inner.Words.{CutWords}
+use Rattle.segments.proofs.Segments.{segments-le}
+use Rattle.shares.specs.declared.Deal.{Deal}
+use Rattle.shares.specs.Inner.Asked.{DealIn}
+use Rattle.shares.specs.Inner.Written.{Numbered}
+use Rattle.shares.proofs.Bounds.{fill-in}
+use Rattle.plans.specs.Diagram.{finish, work, path, segment_count, threads_in, length_in}
+use Rattle.plans.specs.Shares.{deal_of}
+use Rattle.plans.specs.Inner.Drawn.{SegmentsOf}
+use Rattle.plans.proofs.Drawn.{path-so, cut_in, words-so, deal-so, deal-in}
+use Rattle.plans.proofs.Front.{fronted}
+use Rattle.plans.proofs.write_segments.Goals as goal
+use Rattle.plans.proofs.write_segments.Goals.{After-cut_words, After-deal_of-deal, After-fill_numerators}
+
+-- after the cut the words hold that table's threads and lengths
+words : (c : After-cut_words) (t : TaskTable) → (let a = c.args in SegmentsOf t a.n a.period a.work a.swept.cut.number a.swept.cut.time a.threads.now a.enders.now a.finishes.now) → CutWords (threads_in t) (length_in t) (segment_count t) c.args.words.now c.cut_words.new.words
+words c t d = words-so d c.cut_words.ensures
+
+-- so they are ready for the deal
+dealt : (c : After-cut_words) (t : TaskTable) → (let a = c.args in SegmentsOf t a.n a.period a.work a.swept.cut.number a.swept.cut.time a.threads.now a.enders.now a.finishes.now) → (let a = c.args in DealIn c.cut_words.new.words a.swept.cut.number a.period a.work a.swept.cut.time)
+dealt c t d =
+    let room = c.requires.1 in
+    let kept = (words c t d).room in
+    deal-in d (words c t d) (omega arith)
+
+-- and the deal is the table's own
+dealing : (c : After-deal_of-deal) (t : TaskTable) → (let a = c.args in SegmentsOf t a.n a.period a.work a.swept.cut.number a.swept.cut.time a.threads.now a.enders.now a.finishes.now) → c.deal_of-deal.result ≡ deal_of t
+dealing c t d = c.deal_of-deal.ensures ∙ deal-so d (words (goal.at-After-deal_of-deal c).After-cut_words t d)
+
+-- so are the numerators
+numbered : (c : After-fill_numerators) (t : TaskTable) → (let a = c.args in SegmentsOf t a.n a.period a.work a.swept.cut.number a.swept.cut.time a.threads.now a.enders.now a.finishes.now) → Numbered (deal_of t) t.period (work t) (path t) (segment_count t) c.cut_words.new.words c.fill_numerators.new.words
+numbered c t d =
+    let e = c.fill_numerators.ensures in
+    rw (dealing (goal.at-After-fill_numerators c).After-deal_of-deal t d, d.cut_up.count, d.period, d.work, path-so d) at e
+
+pub returns : goal.returns
+returns c = λ t d.
+    let room = c.requires.1 in
+    let few = segments-le t.count (finish t) in
+    let most = d.table.range.count-high in
+    let cut-kept = (words (goal.at.returns c).After-cut_words t d).room in
+    let kept = (numbered (goal.at.returns c).After-fill_numerators t d).size in
+    fronted t (words (goal.at.returns c).After-cut_words t d) (numbered (goal.at.returns c).After-fill_numerators t d) (omega arith) (ap (λ (x : Deal). x.over) (dealing (goal.at.returns c).After-deal_of-deal t d)) d.cut_up.count d.count
+
+pub cut_words-requires : goal.cut_words-requires
+cut_words-requires c = let p = c.requires in cut_in p.0.1 p.1
+
+pub deal_of-deal-requires : goal.deal_of-deal-requires
+deal_of-deal-requires c = dealt (goal.at.deal_of-deal-requires c).After-cut_words _ c.requires.0.1
+
+pub fill_numerators-requires : goal.fill_numerators-requires
+fill_numerators-requires c =
+    rw c.deal_of-deal.ensures (fill-in (dealt (goal.at.fill_numerators-requires c).After-cut_words _ c.requires.0.1))
+
+pub bounds-words-1 : goal.bounds-words-1
+bounds-words-1 c = simp length-set (omega arith)
+
+pub bounds-words-2 : goal.bounds-words-2
+bounds-words-2 c = simp length-set (omega arith)
+
+pub shape_of-words : goal.shape_of-words
+shape_of-words c = simp length-set (omega arith)
