@@ -1,0 +1,22 @@
+use mathlib.Core.Path.{◌≡◌, sym, ◌∙◌}
+use mathlib.Core.Bool.{Bool}
+use mathlib.Core.List.{List}
+use Prim.Native.Nat.{ℕ, ◌+◌, ◌-◌, ◌<◌}
+use native.Mathlib.Omega.{arith}
+use lib.Dec.{eqb}
+use borrow.Author.Tests.{eq-eqb, ne_eqb}
+use Rattle.plain.specs.At.{at}
+use Rattle.ways.specs.Ways.{begin_by}
+use Rattle.shares.specs.Words.{offset_at, deadline_at}
+use Rattle.rules.proofs.Turns.{Tried, tried-none, tried-more, tried-fails, tried-all, compared}
+use Rattle.rules.proofs.followed.Given as goal
+
+-- the test of one node
+abbrev pub passes : (own plan P : List ℕ) → ℕ → Bool
+passes own plan P v = eqb (offset_at plan v) (begin_by P (at own 2) (λ p. offset_at plan p + deadline_at plan p) v)
+
+abbrev pub invariant-loop-v : goal.invariant-loop-v
+invariant-loop-v l = Tried (at l.own 2) (passes l.own l.plan l.parents) l.v
+
+abbrev pub decreases-loop-v : goal.decreases-loop-v
+decreases-loop-v l = at l.own 2 - l.v

@@ -1,0 +1,22 @@
+use mathlib.Core.Path.{◌≡◌}
+use mathlib.Core.Bool.{Bool}
+use mathlib.Core.List.{List}
+use Prim.Native.Nat.{ℕ, ◌*◌, ◌-◌, ◌<◌}
+use native.Mathlib.Omega.{arith}
+use lib.Dec.{leb}
+use Rattle.plain.specs.At.{at}
+use Rattle.plain.proofs.Tests.{passed, failed}
+use Rattle.shares.specs.Words.{deadline_at}
+use Rattle.rules.proofs.Asked.{over-high}
+use Rattle.rules.proofs.Turns.{Tried, tried-none, tried-more, tried-fails, tried-all}
+use Rattle.rules.proofs.halved.Given as goal
+
+-- the test of one node
+abbrev pub passes : (plan X : List ℕ) → ℕ → Bool
+passes plan X v = leb (at X v * at plan 0) (2 * deadline_at plan v)
+
+abbrev pub invariant-loop-v : goal.invariant-loop-v
+invariant-loop-v l = Tried (at l.own 2) (passes l.plan l.executions) l.v
+
+abbrev pub decreases-loop-v : goal.decreases-loop-v
+decreases-loop-v l = at l.own 2 - l.v

@@ -1,0 +1,11 @@
+-- `rules::is_half` meets its contract: both products fit.
+use mathlib.Core.Path.{refl}
+use native.Mathlib.Nat.{mul-le-mul}
+use native.Mathlib.Omega.{arith}
+use Rattle.rules.proofs.is_half.Goals as goal
+
+pub overflow_mul-result : goal.overflow_mul-result
+overflow_mul-result c = omega (arith, mul-le-mul c.requires.0 c.requires.1)
+
+pub returns : goal.returns
+returns c = refl

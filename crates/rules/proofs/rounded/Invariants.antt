@@ -1,0 +1,23 @@
+use mathlib.Core.Path.{◌≡◌, sym, ◌∙◌}
+use mathlib.Core.Bool.{Bool}
+use mathlib.Core.List.{List}
+use Prim.Native.Nat.{ℕ, ◌-◌, ◌<◌}
+use native.Mathlib.Omega.{arith}
+use lib.Dec.{eqb}
+use borrow.Author.Tests.{eq-eqb, ne_eqb}
+use Rattle.plain.specs.At.{at}
+use Rattle.shares.specs.Density.{millionths}
+use Rattle.shares.specs.Words.{deadline_at, density_at}
+use Rattle.rules.proofs.Asked.{over-high, deadline-low}
+use Rattle.rules.proofs.Turns.{Tried, tried-none, tried-more, tried-fails, tried-all, compared}
+use Rattle.rules.proofs.rounded.Given as goal
+
+-- the test of one node
+abbrev pub passes : (plan X : List ℕ) → ℕ → Bool
+passes plan X v = eqb (density_at plan v) (millionths (at X v) (at plan 0) (deadline_at plan v))
+
+abbrev pub invariant-loop-v : goal.invariant-loop-v
+invariant-loop-v l = Tried (at l.own 2) (passes l.plan l.executions) l.v
+
+abbrev pub decreases-loop-v : goal.decreases-loop-v
+decreases-loop-v l = at l.own 2 - l.v

@@ -1,0 +1,23 @@
+use mathlib.Core.Path.{refl}
+use mathlib.Core.Bool.{Bool}
+use mathlib.Core.List.{List}
+use Prim.Native.Nat.{ℕ, ◌-◌, ◌<◌}
+use native.Mathlib.Omega.{arith}
+use lib.Dec.{eqb}
+use borrow.Author.Tests.{eq-eqb, ne_eqb}
+use Rattle.plain.specs.At.{at}
+use Rattle.plain.specs.Tests.{both}
+use Rattle.plain.proofs.Tests.{pick_yes, pick_no, passed, failed}
+use Rattle.shares.specs.Words.{threads_at, length_at}
+use Rattle.rules.proofs.Turns.{Tried, tried-none, tried-more, tried-fails, tried-all}
+use Rattle.rules.proofs.same_cut.Given as goal
+
+-- the test of one segment
+abbrev pub passes : (own plan : List ℕ) → ℕ → Bool
+passes own plan j = both (eqb (threads_at plan j) (threads_at own j)) (eqb (length_at plan j) (length_at own j))
+
+abbrev pub invariant-loop-j : goal.invariant-loop-j
+invariant-loop-j l = Tried (at l.own 1) (passes l.own l.plan) l.j
+
+abbrev pub decreases-loop-j : goal.decreases-loop-j
+decreases-loop-j l = at l.own 1 - l.j

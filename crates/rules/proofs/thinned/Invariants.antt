@@ -1,0 +1,23 @@
+use mathlib.Core.Path.{◌≡◌}
+use mathlib.Core.Bool.{Bool}
+use mathlib.Core.List.{List}
+use Prim.Native.Nat.{ℕ, ◌*◌, ◌-◌, ◌≤◌, ◌<◌}
+use native.Mathlib.Omega.{arith}
+use lib.Dec.{leb}
+use Rattle.plain.specs.At.{at}
+use Rattle.plain.proofs.Tests.{passed, failed}
+use Rattle.shares.specs.Words.{threads_at, length_at, numerator_at}
+use Rattle.rules.proofs.Asked.{piece-low, whole-low}
+use Rattle.rules.proofs.Ceilings.{regrouped}
+use Rattle.rules.proofs.Turns.{Tried, tried-none, tried-more, tried-fails, tried-all}
+use Rattle.rules.proofs.thinned.Given as goal
+
+-- the test of one segment
+abbrev pub passes : (plan : List ℕ) (period work : ℕ) → ℕ → Bool
+passes plan period work j = leb (threads_at plan j * length_at plan j * at plan 0 * period) (2 * work * numerator_at plan j)
+
+abbrev pub invariant-loop-j : goal.invariant-loop-j
+invariant-loop-j l = Tried (at l.plan 1) (passes l.plan l.period l.work) l.j
+
+abbrev pub decreases-loop-j : goal.decreases-loop-j
+decreases-loop-j l = at l.plan 1 - l.j
