@@ -1,0 +1,99 @@
+-- `planwriters::before_writing` meets its contract: its tests are the definition's, in their order, and the id and the words are as small and as long as the
+-- numbers that they become.
+use Prim.Native.Nat.{ℕ, ◌+◌}
+use mathlib.Core.Path.{◌≡◌, refl, sym, ap, ap₂, ◌∙◌}
+use mathlib.Core.Logic.{inl, inr, ⊎_elim}
+use mathlib.Core.List.{List}
+use native.Mathlib.Omega.{arith}
+use borrow.Author.Rules.{rules}
+use borrow.Author.Tests.{lt-ltb, le-ltb}
+use lib.Dec.{ltb}
+use lib.ListN.{length, take, length-take}
+use lib.Seq.{length-take-le}
+use Rattle.plain.specs.Pick.{pick}
+use Rattle.plain.proofs.Tests.{pick_yes, pick_no, passed, failed, between-true}
+use Rattle.refusals.specs.Numbers.{wrong_length}
+use Rattle.refusals.specs.Refusal.{refusal}
+use Rattle.refusals.specs.declared.Outcome.{Outcome}
+use Rattle.refusals.specs.declared.Outcome.TheVariants.{Accepted, Refused}
+use Rattle.planwriters.specs.Writing.{plan_record_of, after_counts, before_writing}
+use Rattle.planwriters.specs.Inner.Parts.{count_of, Whole}
+use Rattle.planwriters.specs.Inner.Fits.{Small, Counted}
+use Rattle.planwriters.proofs.Small.{small-values, values-small}
+use Rattle.planwriters.proofs.Numbers.{counted-whole, big-number, parts-numbers-small, numbers-size, plan-length}
+use Rattle.planwriters.proofs.before_writing.Goals as goal
+use Rattle.planwriters.proofs.before_writing.Goals.{After-size_of, Else-not-are_small, Else-not-is_count-2, then-id-ge-VALUE_LIMIT-via-else-id-ge-VALUE_LIMIT+then-not-are_small, then-id-ge-VALUE_LIMIT-via-then-id-ge-VALUE_LIMIT}
+
+pub returns-then-words-lt-WORDS_MAX : goal.returns-then-words-lt-WORDS_MAX
+unfolding before_writing
+returns-then-words-lt-WORDS_MAX c = pick_yes _ (lt-ltb _ _ c.if-words-lt-WORDS_MAX.true) (ap Refused c.of.ensures)
+
+pub returns-then-not-is_count : goal.returns-then-not-is_count
+unfolding before_writing
+returns-then-not-is_count c = pick_no _ (le-ltb _ _ c.if-words-lt-WORDS_MAX.false) (pick_no _ (failed c.is_count.ensures c.if-not-is_count.true-raw) (ap Refused c.of-then-not-is_count.ensures))
+
+pub returns-then-not-is_count-2 : goal.returns-then-not-is_count-2
+unfolding before_writing
+returns-then-not-is_count-2 c = pick_no _ (le-ltb _ _ c.if-words-lt-WORDS_MAX.false) (pick_yes _ (passed c.is_count.ensures c.if-not-is_count.false-raw)
+    (pick_no _ (failed c.is_count-2.ensures c.if-not-is_count-2.true-raw) (ap Refused c.of-then-not-is_count-2.ensures)))
+
+abbrev lent : Else-not-is_count-2 → List ℕ
+lent c = c.args.words.now
+
+counted : (c : Else-not-is_count-2) → Counted (lent c)
+counted c =
+    let segments = between-true _ _ _ (passed c.is_count.ensures c.if-not-is_count.false-raw) in
+    let nodes = between-true _ _ _ (passed c.is_count-2.ensures c.if-not-is_count-2.false-raw) in
+    record { enough = c.if-words-lt-WORDS_MAX.false; segments-low = segments.0; segments-high = segments.1; nodes-low = nodes.0; nodes-high = nodes.1 }
+
+whole : (c : Else-not-is_count-2) → Whole (lent c)
+whole c = counted-whole (counted c)
+
+-- then the rules after them decide
+later : (c : Else-not-is_count-2) {o : Outcome} → o ≡ after_counts (lent c) c.args.room c.args.id → o ≡ before_writing (lent c) c.args.room c.args.id
+unfolding before_writing
+later c e = pick_no _ (le-ltb _ _ c.if-words-lt-WORDS_MAX.false) (pick_yes _ (passed c.is_count.ensures c.if-not-is_count.false-raw)
+    (pick_yes _ (passed c.is_count-2.ensures c.if-not-is_count-2.false-raw) e))
+
+pub overflow_mul-written : goal.overflow_mul-written
+overflow_mul-written c = omega (arith, (counted (goal.at.overflow_mul-written c).Else-not-is_count-2).segments-high)
+
+pub overflow_add-written : goal.overflow_add-written
+overflow_add-written c = omega (arith, (counted (goal.at.overflow_add-written c).Else-not-is_count-2).segments-high)
+
+pub overflow_mul-written-2 : goal.overflow_mul-written-2
+overflow_mul-written-2 c = omega (arith, (counted (goal.at.overflow_mul-written-2 c).Else-not-is_count-2).nodes-high)
+
+pub overflow_add-written-2 : goal.overflow_add-written-2
+overflow_add-written-2 c = omega (arith, (counted (goal.at.overflow_add-written-2 c).Else-not-is_count-2).segments-high, (counted (goal.at.overflow_add-written-2 c).Else-not-is_count-2).nodes-high)
+
+pub slice_bounds-written-end : goal.slice_bounds-written-end
+slice_bounds-written-end c = sym (length-take-le _ _ (whole (goal.at.slice_bounds-written-end c).Else-not-is_count-2))
+
+pub returns-then-id-ge-VALUE_LIMIT : goal.returns-then-id-ge-VALUE_LIMIT
+returns-then-id-ge-VALUE_LIMIT c = later (goal.at.returns-then-id-ge-VALUE_LIMIT c).Else-not-is_count-2 (pick_no _ (big-number (lent (goal.at.returns-then-id-ge-VALUE_LIMIT c).Else-not-is_count-2) (whole (goal.at.returns-then-id-ge-VALUE_LIMIT c).Else-not-is_count-2) _ (elim c.then-id-ge-VALUE_LIMIT.branch [ then-id-ge-VALUE_LIMIT-via-then-id-ge-VALUE_LIMIT w ↦ inl w.if-id-ge-VALUE_LIMIT.true | then-id-ge-VALUE_LIMIT-via-else-id-ge-VALUE_LIMIT+then-not-are_small w ↦ inr (failed w.are_small.ensures w.if-not-are_small.true-raw) ])) (ap Refused c.of-then-id-ge-VALUE_LIMIT.ensures))
+
+small-words : (c : Else-not-are_small) → (let words = lent (goal.at.Else-not-are_small c).Else-not-is_count-2 in Small (take (count_of words) words))
+small-words c = small-values _ (passed c.are_small.ensures c.if-not-are_small.false-raw)
+
+-- the rule of the room decides,
+last : (c : Else-not-are_small) {o : Outcome} → (let a = c.args in
+    o ≡ pick (ltb a.room (length (plan_record_of a.id a.words.now))) (Refused (refusal wrong_length a.room)) Accepted → o ≡ before_writing a.words.now a.room a.id)
+last c q = later (goal.at.Else-not-are_small c).Else-not-is_count-2 (pick_yes _ (values-small _ λ i h. (parts-numbers-small (lent (goal.at.Else-not-are_small c).Else-not-is_count-2) (whole (goal.at.Else-not-are_small c).Else-not-is_count-2) _ c.if-id-ge-VALUE_LIMIT.false (small-words c)).each i) q)
+
+pub size_of-requires : goal.size_of-requires
+size_of-requires c = (small-words (goal.at.size_of-requires c).Else-not-are_small, omega (arith, length-take (count_of (lent (goal.at.size_of-requires c).Else-not-is_count-2)) (lent (goal.at.size_of-requires c).Else-not-is_count-2), (counted (goal.at.size_of-requires c).Else-not-is_count-2).segments-high, (counted (goal.at.size_of-requires c).Else-not-is_count-2).nodes-high))
+
+-- and the size is the record's
+size : (c : After-size_of) → (let a = c.args in
+    c.length_of.result + c.size_of.result ≡ length (plan_record_of a.id a.words.now))
+size c = ap₂ ◌+◌ c.length_of.ensures c.size_of.ensures ∙ numbers-size (lent (goal.at.After-size_of c).Else-not-is_count-2) (whole (goal.at.After-size_of c).Else-not-is_count-2) _ c.if-id-ge-VALUE_LIMIT.false
+
+pub overflow_add-length_of : goal.overflow_add-length_of
+overflow_add-length_of c = omega (arith, size (goal.at.overflow_add-length_of c).After-size_of, plan-length c.args.id (lent (goal.at.overflow_add-length_of c).Else-not-is_count-2) (counted (goal.at.overflow_add-length_of c).Else-not-is_count-2).segments-high (counted (goal.at.overflow_add-length_of c).Else-not-is_count-2).nodes-high)
+
+pub returns-then-room-length_of : goal.returns-then-room-length_of
+returns-then-room-length_of c = last (goal.at.returns-then-room-length_of c).Else-not-are_small (pick_yes _ (lt-ltb _ _ (rw (size (goal.at.returns-then-room-length_of c).After-size_of) at c.if-room-length_of.true)) (ap Refused c.of-then-room-length_of.ensures))
+
+pub returns : goal.returns
+returns c = last (goal.at.returns c).Else-not-are_small (pick_no _ (le-ltb _ _ (rw (size (goal.at.returns c).After-size_of) at c.if-room-length_of.false)) refl)
