@@ -23,6 +23,7 @@ use ways::Weighed;
 pub const WORDS_MAX: usize = 387;
 
 // Whether a record is to be read at all: 26 where the cost is too high, 16 where too few words are lent.
+#[tactic(auto, unfolding(crate::specs::Calls::before_reading))]
 pub fn before_reading(words: usize, cost: u64) -> Outcome
     ensures { result ≡ before_reading words cost }
 {
