@@ -159,6 +159,7 @@ fn rejected(step: Step) -> Reading
 }
 
 // A whole table, where no byte follows it and its executions are not all zeros.
+#[tactic(auto, unfolding(crate::specs::Step::and_then, crate::specs::Nodes::nothing_follows))]
 fn nothing_follows(bytes: &[u8], at: usize, zeros: bool, table: TaskTable) -> Reading
     requires { zeros ≡ all_zero table.execution table.count }
     ensures { result ≡ nothing_follows table bytes.now at }
