@@ -8,7 +8,6 @@ use native.Mathlib.Omega.{arith}
 use lib.ListN.{set}
 use borrow.Author.Tests.{eqb-false}
 use Rattle.refusals.specs.Numbers.{id_stands, board_full, bad_cores, few_words, unsound_board, verdict_no, high_cost}
-use Rattle.refusals.specs.Refusal.{refusal}
 use Rattle.tables.specs.declared.TaskTable.{TaskTable}
 use Rattle.plans.specs.Calls.{task_of}
 use Rattle.boards.specs.declared.Row.{Row}

@@ -18,7 +18,6 @@ use Rattle.plain.proofs.Sums.{le-max_to, max_to-is}
 use Rattle.refusals.specs.declared.Refusal.{Refusal}
 use Rattle.refusals.specs.declared.Outcome.{Outcome}
 use Rattle.refusals.specs.declared.Outcome.TheVariants.{Accepted, Refused}
-use Rattle.refusals.specs.Refusal.{refusal}
 use Rattle.refusals.specs.After.{After}
 use Rattle.tables.specs.declared.TaskTable.{TaskTable}
 use Rattle.tables.specs.Limits.{million}

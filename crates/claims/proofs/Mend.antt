@@ -25,7 +25,7 @@ use Rattle.writers.specs.Writing.{record_put}
 use Rattle.writers.proofs.Trip.{spells}
 use Rattle.writers.proofs.Longest.{record-length}
 use Rattle.menders.specs.declared.Draft.{Draft}
-use Rattle.menders.specs.Draft.{no_counts, drawn, draft_of}
+use Rattle.menders.specs.Draft.{no_counts, draft_of}
 use Rattle.menders.specs.Given.{Due, range, Refuses}
 use Rattle.menders.specs.Given.Due.{edition, id, period, count, execution, parent_count, parent}
 use Rattle.menders.specs.Given.Refuses.{ends, long, outside, follow}

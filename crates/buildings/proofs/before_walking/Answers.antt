@@ -1,6 +1,5 @@
 -- `buildings::before_walking` meets its contract: each return answers by the tests that led to it.
 use mathlib.Core.Path.{ap}
-use borrow.Author.Rules.{rules}
 use borrow.Author.Tests.{lt-ltb, le-ltb}
 use Rattle.refusals.specs.declared.Outcome.TheVariants.{Refused}
 use Rattle.buildings.specs.Building.{before_walking}

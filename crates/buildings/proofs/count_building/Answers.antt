@@ -1,7 +1,6 @@
 -- `buildings::count_building` meets its contract: 26 and 27 first, and then the walk, of a file that is short enough and with a cost in range.
 use mathlib.Core.Path.{◌≡◌, sym, ap, ◌∙◌}
 use lib.ListN.{length}
-use borrow.Author.Rules.{rules}
 use Rattle.refusals.specs.declared.Outcome.TheVariants.{Accepted}
 use Rattle.refusals.specs.Answer.{answer_of}
 use Rattle.buildings.specs.Building.{before_walking}

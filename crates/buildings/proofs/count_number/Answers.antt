@@ -1,6 +1,5 @@
 -- `buildings::count_number` meets its contract: its test is the definition's.
 use native.Mathlib.Omega.{arith}
-use borrow.Author.Rules.{rules}
 use borrow.Author.Tests.{eq-eqb, ne_eqb}
 use Rattle.buildings.proofs.count_number.Goals as goal
 

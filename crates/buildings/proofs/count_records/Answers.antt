@@ -1,12 +1,10 @@
 -- `buildings::count_records` meets its contract: each turn adds the tally of the record that stands at the place, and the walk is left where it ends.
 use mathlib.Core.Path.{◌≡◌, sym, ap, ap₂, ◌∙◌}
 use mathlib.Core.List.{List}
-use Prim.Native.Nat.{ℕ, ◌+◌, ◌-◌, ◌≤◌, ◌<◌}
+use Prim.Native.Nat.{ℕ, ◌+◌, ◌≤◌, ◌<◌}
 use native.Mathlib.Omega.{arith}
 use lib.ListN.{length}
-use borrow.Author.Rules.{rules}
 use Rattle.refusals.specs.declared.Answer.{Answer}
-use Rattle.refusals.specs.Answer.{refused}
 use Rattle.records.specs.declared.Step.TheVariants.{Read}
 use Rattle.records.proofs.Cases.{then-refused}
 use Rattle.files.specs.File.{record_at, part_of}
@@ -15,7 +13,7 @@ use Rattle.buildings.specs.declared.Counts.{Counts}
 use Rattle.buildings.specs.declared.Tally.{Tally}
 use Rattle.buildings.specs.Inner.Tally.{tally_of, plus, with_number}
 use Rattle.buildings.proofs.Sized.{tally-sized}
-use Rattle.buildings.proofs.Walked.{Counted, counted_none, counted-more, counted-few, counted-sized, counted-most, counted-whole, counted-stopped}
+use Rattle.buildings.proofs.Walked.{counted_none, counted-more, counted-few, counted-sized, counted-most, counted-whole, counted-stopped}
 use Rattle.buildings.proofs.count_records.Goals as goal
 use Rattle.buildings.proofs.count_records.Goals.{After-tally_of-tally, After-words-1, In-Read}
 

@@ -1,6 +1,5 @@
 -- `buildings::stopped` meets its contract: each arm is a case of `and_then`.
 use mathlib.Core.Path.{sym, ap, ◌∙◌}
-use borrow.Author.Rules.{rules}
 use Rattle.refusals.specs.declared.Answer.{Answer}
 use Rattle.records.proofs.Cases.{then-read, then-refused}
 use Rattle.buildings.proofs.stopped.Goals as goal

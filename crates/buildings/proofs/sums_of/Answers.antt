@@ -4,7 +4,6 @@ use Prim.Native.Nat.{◌-◌, ◌≤◌}
 use native.Mathlib.Omega.{arith}
 use lib.ListN.{length}
 use Rattle.plain.specs.At.{at}
-use borrow.Author.Rules.{rules}
 use Rattle.plain.specs.Sums.{max_to}
 use Rattle.tables.specs.declared.TaskTable.{TaskTable}
 use Rattle.shares.specs.declared.Kinds.{Kinds}

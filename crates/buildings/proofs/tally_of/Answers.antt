@@ -1,6 +1,5 @@
 -- `buildings::tally_of` meets its contract: the reading's refusal first, then the table that was read.
 use mathlib.Core.Path.{◌≡◌, sym, ap, ◌∙◌}
-use borrow.Author.Rules.{rules}
 use Rattle.refusals.specs.declared.Refusal.{Refusal}
 use Rattle.refusals.specs.declared.Outcome.TheVariants.{Accepted}
 use Rattle.tables.specs.Cost.{costed}

@@ -2,9 +2,8 @@
 use mathlib.Core.Path.{◌≡◌, sym, ap, ◌∙◌}
 use Prim.Native.Nat.{◌≤◌}
 use native.Mathlib.Omega.{arith}
-use borrow.Author.Rules.{rules}
 use Rattle.refusals.specs.declared.Outcome.TheVariants.{Accepted}
-use Rattle.refusals.specs.Answer.{answer_of, refused}
+use Rattle.refusals.specs.Answer.{answer_of}
 use Rattle.refusals.proofs.Readers.{readers-low}
 use Rattle.tables.specs.Limits.{cost_max}
 use Rattle.tables.specs.Cost.{costed}

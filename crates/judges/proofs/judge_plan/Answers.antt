@@ -1,7 +1,6 @@
 -- `judges::judge_plan` meets its contract: 16 first, then the refusal of the plan record, and else its words are judged, which stand at the front of those it was read into.
 use mathlib.Core.Path.{◌≡◌, sym, ap, ◌∙◌}
 use native.Mathlib.Omega.{arith}
-use borrow.Author.Rules.{rules}
 use lib.ListN.{replicate}
 use lib.Seq.{length-take-le}
 use Rattle.tables.specs.declared.TaskTable.{TaskTable}

@@ -4,12 +4,11 @@ use mathlib.Core.Path.{◌≡◌, sym, ap, ◌∙◌}
 use mathlib.Core.Bool.{Bool, true, false}
 use mathlib.Core.List.{List, [], ◌∷◌, ◌++◌}
 use lib.Dec.{ltb}
-use borrow.Author.Rules.{rules}
 use Rattle.plain.specs.Pick.{pick}
 use Rattle.sets.specs.Member.{is_member}
 use Rattle.sets.specs.Inner.Put.{with_member}
 use Rattle.listings.specs.declared.Listing.{Listing}
-use Rattle.listings.specs.Lists.{is_listed, reordered}
+use Rattle.listings.specs.Lists.{is_listed}
 use Rattle.listings.specs.Inner.Listing.{listing_of}
 use Rattle.listings.proofs.Lists.{member-listed, met-again, met-new}
 use Rattle.listings.proofs.with_parent.Goals as goal

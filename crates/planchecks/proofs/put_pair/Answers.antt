@@ -1,6 +1,5 @@
 -- `planchecks::put_pair` meets its contract: the first record's refusal, or the second record behind it.
 use mathlib.Core.Path.{◌≡◌, sym, ◌∙◌}
-use borrow.Author.Rules.{rules}
 use Rattle.records.specs.declared.Step.TheVariants.{Read}
 use Rattle.files.specs.File.{record_at}
 use Rattle.sheets.specs.Lines.{refused_line}

@@ -3,7 +3,6 @@ use mathlib.Core.Path.{◌≡◌, sym, ap, ap₂, ◌∙◌}
 use Prim.Native.Nat.{ℕ, ◌+◌, ◌≤◌}
 use native.Mathlib.Omega.{arith}
 use lib.ListN.{length}
-use borrow.Author.Rules.{rules}
 use Rattle.records.specs.declared.Step.TheVariants.{Read}
 use Rattle.files.specs.File.{record_at}
 use Rattle.sheets.specs.Lines.{refused_line}

@@ -5,7 +5,6 @@ use Prim.Native.Nat.{ℕ, ◌≤◌}
 use native.Mathlib.Omega.{arith}
 use lib.ListN.{length, take, length-take}
 use lib.Seq.{take_all, take-length}
-use borrow.Author.Rules.{rules}
 use Rattle.sheets.specs.Lines.{refused_line}
 use Rattle.sheets.proofs.Printing.{wrote-same, prints, leaves}
 use Rattle.planchecks.specs.Pair.{on_pair}

@@ -1,9 +1,9 @@
 -- `planreaders::copy_words` meets its contract. The loop's invariant: the first i words are those of `from`, the others as they were.
-use Prim.Native.Nat.{ℕ, ◌-◌, ◌≤◌}
+use Prim.Native.Nat.{ℕ}
 use mathlib.Core.Path.{◌≡◌, refl, ap, ◌∙◌}
 use mathlib.Core.List.{List}
 use native.Mathlib.Omega.{arith}
-use lib.ListN.{length, take, set, length-set}
+use lib.ListN.{take, set, length-set}
 use Rattle.plain.specs.At.{at}
 use Rattle.planreaders.specs.Reading.{filled_with}
 use Rattle.planreaders.proofs.Filling.{copy_more}

@@ -4,7 +4,6 @@ use mathlib.Core.Path.{◌≡◌, sym, ap, ap₂, ◌∙◌}
 use mathlib.Core.List.{List}
 use native.Mathlib.Omega.{arith}
 use lib.ListN.{length}
-use borrow.Author.Rules.{rules}
 use Rattle.refusals.specs.declared.Answer.{Answer}
 use Rattle.refusals.specs.After.{After}
 use Rattle.planreaders.specs.Plan.{on_plan, plan_of}

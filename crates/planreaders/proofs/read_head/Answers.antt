@@ -1,7 +1,6 @@
 -- `planreaders::read_head` meets its contract: a refusal of the id goes straight out, and Q is read from the place after the id.
 use mathlib.Core.Path.{◌≡◌, sym, ◌∙◌}
 use native.Mathlib.Omega.{arith}
-use borrow.Author.Rules.{rules}
 use Rattle.numbers.specs.Number.{plan_more}
 use Rattle.records.specs.declared.Step.TheVariants.{Read}
 use Rattle.records.specs.Ranged.{whole_in}

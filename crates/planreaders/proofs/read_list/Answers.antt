@@ -1,7 +1,6 @@
 -- `planreaders::read_list` meets its contract: the count's range is tried first, and then its triples are read.
 use mathlib.Core.Path.{◌≡◌, sym, ap, ◌∙◌}
 use native.Mathlib.Omega.{arith}
-use borrow.Author.Rules.{rules}
 use Rattle.refusals.specs.Numbers.{bad_plan}
 use Rattle.tables.specs.Limits.{count_max}
 use Rattle.numbers.specs.Number.{plan_more}

@@ -4,7 +4,6 @@ use mathlib.Core.Path.{◌≡◌, sym, ap, ◌∙◌}
 use mathlib.Core.List.{List}
 use native.Mathlib.Omega.{arith}
 use lib.ListN.{length, drop, length-drop}
-use borrow.Author.Rules.{rules}
 use Rattle.plain.specs.At.{at}
 use Rattle.tables.specs.Limits.{count_max}
 use Rattle.numbers.proofs.Cases.{clash}

@@ -1,9 +1,7 @@
 -- `planreaders::read_triples` meets its contract. The loop's invariant: the numbers so far stand in the words, and those still to be read make the rest of the list.
-use Prim.Native.Nat.{◌-◌}
 use mathlib.Core.Path.{refl, sym, ◌∙◌}
 use native.Mathlib.Omega.{arith}
-use borrow.Author.Rules.{rules}
-use Rattle.planreaders.proofs.Lists.{told-refused, told-read, Reading, reading-none, reading-more, reading-out, reading-all}
+use Rattle.planreaders.proofs.Lists.{told-refused, told-read, reading-none, reading-more, reading-out, reading-all}
 use Rattle.planreaders.proofs.read_triples.Goals as goal
 
 pub loop-i-init : goal.loop-i-init

@@ -1,8 +1,5 @@
 use Prim.Native.Nat.{◌-◌}
-use mathlib.Core.Path.{refl, sym, ◌∙◌}
-use native.Mathlib.Omega.{arith}
-use borrow.Author.Rules.{rules}
-use Rattle.planreaders.proofs.Lists.{told-refused, told-read, Reading, reading-none, reading-more, reading-out, reading-all}
+use Rattle.planreaders.proofs.Lists.{Reading}
 use Rattle.planreaders.proofs.read_triples.Given as goal
 
 abbrev pub invariant-loop-i : goal.invariant-loop-i

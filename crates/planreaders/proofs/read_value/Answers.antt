@@ -1,6 +1,5 @@
 -- `planreaders::read_value` meets its contract: what the number reader found in the part from `at` on is told as `step_of` says.
 use mathlib.Core.Path.{◌∙◌}
-use borrow.Author.Rules.{rules}
 use Rattle.records.proofs.Cases.{whole_is}
 use Rattle.records.proofs.Inside.{found_inside}
 use Rattle.planreaders.proofs.read_value.Goals as goal

@@ -4,7 +4,6 @@ use mathlib.Core.Path.{◌≡◌, sym, ap, ap₂, ◌∙◌}
 use mathlib.Core.List.{List, ◌∷◌, ◌++◌}
 use native.Mathlib.Omega.{arith}
 use lib.ListN.{drop, length-set}
-use borrow.Author.Rules.{rules}
 use Rattle.plain.specs.At.{at}
 use Rattle.tables.specs.Limits.{count_max}
 use Rattle.records.specs.declared.Step.TheVariants.{Read, Refused}

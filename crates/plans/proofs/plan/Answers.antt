@@ -1,6 +1,5 @@
 -- `plans::plan` meets its contract: 26 and 16 first, then the reading's refusal, then the table that was read, which planning can take.
 use mathlib.Core.Path.{◌≡◌, sym, ap, ◌∙◌}
-use borrow.Author.Rules.{rules}
 use lib.ListN.{length}
 use Rattle.refusals.specs.Answer.{answer_of}
 use Rattle.refusals.specs.declared.Outcome.TheVariants.{Accepted}

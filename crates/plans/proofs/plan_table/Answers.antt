@@ -5,11 +5,9 @@ use mathlib.Core.Bool.{false}
 use mathlib.Core.List.{List, ◌++◌}
 use Prim.Native.Nat.{ℕ, ◌+◌, ◌*◌, ◌^◌, ◌≤◌}
 use native.Mathlib.Omega.{arith}
-use borrow.Author.Rules.{rules}
 use lib.Dec.{ltb}
 use lib.ListN.{drop}
 use Rattle.plain.specs.At.{at}
-use Rattle.tables.specs.declared.TaskTable.{TaskTable}
 use Rattle.tables.specs.Cost.{costed}
 use Rattle.tables.proofs.Cost.{at-cost, cost-none}
 use Rattle.ways.specs.Closure.{loops}

@@ -1,6 +1,5 @@
 -- `plans::tested` meets its contract: the tests are made in the definition's order.
 use mathlib.Core.Path.{◌∙◌}
-use borrow.Author.Rules.{rules}
 use borrow.Author.Tests.{lt-ltb, le-ltb}
 use Rattle.plans.proofs.tested.Goals as goal
 

@@ -2,7 +2,6 @@
 -- beside them, and the head is written last.
 use mathlib.Core.Path.{◌≡◌, ap, ◌∙◌}
 use native.Mathlib.Omega.{arith}
-use borrow.Author.Rules.{rules}
 use lib.ListN.{length-set}
 use Rattle.tables.specs.declared.TaskTable.{TaskTable}
 use Rattle.segments.specs.Inner.Words.{CutWords}

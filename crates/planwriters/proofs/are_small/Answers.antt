@@ -1,5 +1,5 @@
 -- `planwriters::are_small` meets its contract: the values passed are small, and the first that is not makes the test fail.
-use Prim.Native.Nat.{ℕ, ◌-◌, ◌≤◌, ◌<◌}
+use Prim.Native.Nat.{◌<◌}
 use mathlib.Core.Path.{sym}
 use native.Mathlib.Nat.{not-suc-le-zero}
 use native.Mathlib.Omega.{arith}

@@ -1,11 +1,6 @@
 use Prim.Native.Nat.{ℕ, ◌-◌, ◌≤◌, ◌<◌}
-use mathlib.Core.Path.{sym}
-use native.Mathlib.Nat.{not-suc-le-zero}
-use native.Mathlib.Omega.{arith}
-use borrow.Author.Count.{below_more}
 use Rattle.plain.specs.At.{at}
 use Rattle.planwriters.specs.Writing.{value_limit}
-use Rattle.planwriters.proofs.Small.{values-small, value-big}
 use Rattle.planwriters.proofs.are_small.Given as goal
 
 abbrev pub invariant-loop-i : goal.invariant-loop-i

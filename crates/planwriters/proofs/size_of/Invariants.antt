@@ -1,12 +1,8 @@
-use Prim.Native.Nat.{ℕ, ◌+◌, ◌-◌, ◌≤◌}
-use mathlib.Core.Path.{◌≡◌, refl, ap, ◌∙◌}
-use native.Mathlib.Omega.{arith}
-use borrow.Author.Rules.{rules}
+use Prim.Native.Nat.{◌-◌, ◌≤◌}
+use mathlib.Core.Path.{◌≡◌}
 use lib.ListN.{length, take}
-use lib.Seq.{take-length}
 use Rattle.numbers.specs.Number.{plan_more}
 use Rattle.numbers.specs.Shortest.{all_shortest}
-use Rattle.planwriters.proofs.Values.{size-next, size-most}
 use Rattle.planwriters.proofs.size_of.Given as goal
 
 abbrev pub invariant-loop-i : goal.invariant-loop-i

@@ -1,8 +1,7 @@
 -- `planwriters::write_values` meets its contract. The loop's invariant: the values passed are written.
-use Prim.Native.Nat.{◌-◌, ◌≤◌}
 use mathlib.Core.Path.{◌≡◌}
 use native.Mathlib.Omega.{arith}
-use lib.ListN.{length, take}
+use lib.ListN.{length}
 use lib.Seq.{take-length}
 use Rattle.numbers.specs.Number.{plan_more}
 use Rattle.numbers.proofs.Written.{Wrote, wrote_none, wrote-length}

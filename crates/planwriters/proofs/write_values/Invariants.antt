@@ -1,11 +1,7 @@
 use Prim.Native.Nat.{◌-◌, ◌≤◌}
-use mathlib.Core.Path.{◌≡◌}
-use native.Mathlib.Omega.{arith}
-use lib.ListN.{length, take}
-use lib.Seq.{take-length}
+use lib.ListN.{take}
 use Rattle.numbers.specs.Number.{plan_more}
-use Rattle.numbers.proofs.Written.{Wrote, wrote_none, wrote-length}
-use Rattle.planwriters.proofs.Values.{room_next, wrote-next}
+use Rattle.numbers.proofs.Written.{Wrote}
 use Rattle.planwriters.proofs.write_values.Given as goal
 
 abbrev pub invariant-loop-i : goal.invariant-loop-i

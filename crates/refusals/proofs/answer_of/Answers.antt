@@ -1,6 +1,5 @@
 -- `refusals::answer_of` meets its contract, by the case of the outcome.
 use mathlib.Core.Path.{sym, ap, ◌∙◌}
-use borrow.Author.Rules.{rules}
 use Rattle.refusals.specs.Answer.{answer_of}
 use Rattle.refusals.proofs.answer_of.Goals as goal
 

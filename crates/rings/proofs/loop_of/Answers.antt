@@ -1,6 +1,5 @@
 -- `rings::loop_of` meets its contract: the node is the one that is named, a node of the task, and the set is its ring.
 use mathlib.Core.Path.{ap, ap₂, ◌∙◌}
-use borrow.Author.Rules.{rules}
 use Rattle.refusals.specs.Refusal.{looped}
 use Rattle.rings.specs.Ring.{ring}
 use Rattle.rings.proofs.Round.{named-first}

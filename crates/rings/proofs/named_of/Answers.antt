@@ -1,8 +1,7 @@
 -- `rings::named_of` meets its contract: the nodes are tried upward, so the first that goes round is the smallest, and one does.
 use mathlib.Core.Path.{◌≡◌, sym, ◌∙◌}
 use mathlib.Core.Logic.{⊎_elim}
-use mathlib.Core.Bool.{true}
-use Prim.Native.Nat.{ℕ, ◌-◌, ◌≤◌, ◌<◌}
+use Prim.Native.Nat.{◌-◌, ◌<◌}
 use native.Mathlib.Nat.{le_refl, sub_self, le_of_suc-le-suc, eq-or-lt_of_le}
 use native.Mathlib.Omega.{arith}
 use Rattle.plain.proofs.Picks.{true-false}

@@ -1,8 +1,6 @@
 -- `rings::ring_of` meets its contract: after each turn the set is the definition's after as many nodes.
 use mathlib.Core.Path.{◌≡◌, sym, ◌∙◌}
-use Prim.Native.Nat.{◌-◌, ◌≤◌}
 use native.Mathlib.Omega.{arith}
-use Rattle.rings.specs.Ring.{ring_after}
 use Rattle.rings.proofs.Round.{ring-none, ring_out, ring-kept}
 use Rattle.rings.proofs.ring_of.Goals as goal
 use Rattle.rings.proofs.ring_of.Goals.{else-goes_round, then-goes_round}

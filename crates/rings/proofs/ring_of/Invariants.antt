@@ -1,9 +1,6 @@
-use mathlib.Core.Path.{◌≡◌, sym, ◌∙◌}
-use mathlib.Core.Logic.{⊎_elim}
+use mathlib.Core.Path.{◌≡◌}
 use Prim.Native.Nat.{◌-◌, ◌≤◌}
-use native.Mathlib.Omega.{arith}
 use Rattle.rings.specs.Ring.{ring_after}
-use Rattle.rings.proofs.Round.{ring-none, ring_out, ring-kept}
 use Rattle.rings.proofs.ring_of.Given as goal
 
 abbrev pub invariant-loop-k : goal.invariant-loop-k

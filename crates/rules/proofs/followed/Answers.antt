@@ -1,15 +1,11 @@
 -- `rules::followed` meets its contract: the offsets passed follow the parents, and the first that doesn't makes the test fail.
 use mathlib.Core.Path.{◌≡◌, sym, ◌∙◌}
-use mathlib.Core.Bool.{Bool}
-use mathlib.Core.List.{List}
-use Prim.Native.Nat.{ℕ, ◌+◌, ◌-◌, ◌<◌}
+use Prim.Native.Nat.{◌<◌}
 use native.Mathlib.Omega.{arith}
 use lib.Dec.{eqb}
 use borrow.Author.Tests.{eq-eqb, ne_eqb}
 use Rattle.plain.specs.At.{at}
-use Rattle.ways.specs.Ways.{begin_by}
-use Rattle.shares.specs.Words.{offset_at, deadline_at}
-use Rattle.rules.proofs.Turns.{Tried, tried-none, tried-more, tried-fails, tried-all, compared}
+use Rattle.rules.proofs.Turns.{tried-none, tried-more, tried-fails, tried-all, compared}
 use Rattle.rules.proofs.followed.Goals as goal
 use Rattle.rules.proofs.followed.Goals.{After-parents_end, In-loop-v}
 use Rattle.rules.proofs.followed.Invariants.{passes}

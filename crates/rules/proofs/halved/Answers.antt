@@ -1,15 +1,11 @@
 -- `rules::halved` meets its contract: the nodes passed have half, and the first that hasn't makes the test fail.
 use mathlib.Core.Path.{◌≡◌}
-use mathlib.Core.Bool.{Bool}
-use mathlib.Core.List.{List}
-use Prim.Native.Nat.{ℕ, ◌*◌, ◌-◌, ◌<◌}
+use Prim.Native.Nat.{◌<◌}
 use native.Mathlib.Omega.{arith}
-use lib.Dec.{leb}
 use Rattle.plain.specs.At.{at}
 use Rattle.plain.proofs.Tests.{passed, failed}
-use Rattle.shares.specs.Words.{deadline_at}
 use Rattle.rules.proofs.Asked.{over-high}
-use Rattle.rules.proofs.Turns.{Tried, tried-none, tried-more, tried-fails, tried-all}
+use Rattle.rules.proofs.Turns.{tried-none, tried-more, tried-fails, tried-all}
 use Rattle.rules.proofs.halved.Goals as goal
 use Rattle.rules.proofs.halved.Goals.{After-is_half, In-loop-v}
 use Rattle.rules.proofs.halved.Invariants.{passes}

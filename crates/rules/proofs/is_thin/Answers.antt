@@ -1,7 +1,6 @@
 -- `rules::is_thin` meets its contract: the quotients are compared in place of the products, and they fit.
 use Prim.Native.Nat.{◌*◌}
 use native.Mathlib.Omega.{arith}
-use borrow.Author.Rules.{rules}
 use Rattle.rules.proofs.Ceilings.{ceiling-test, quotient_fits, rest-fits, ceiling-fits}
 use Rattle.rules.proofs.is_thin.Goals as goal
 

@@ -1,5 +1,4 @@
 -- `rules::node_word` meets its contract: the word stands in the plan, at its place of the triple.
-use native.Mathlib.Omega.{arith}
 use Rattle.rules.proofs.Places.{node-place}
 use Rattle.rules.proofs.node_word.Goals as goal
 

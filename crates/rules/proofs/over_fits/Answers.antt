@@ -1,6 +1,5 @@
 -- `rules::over_fits` meets its contract: it asks the range's two tests in their order.
 use mathlib.Core.Path.{refl}
-use borrow.Author.Rules.{rules}
 use borrow.Author.Tests.{le-leb, lt-leb}
 use Rattle.plain.proofs.Tests.{pick_yes, pick_no}
 use Rattle.rules.proofs.over_fits.Goals as goal

@@ -1,6 +1,5 @@
 -- `rules::parents_end` meets its contract: the greatest so far, and the greatest of the parents that are left, make the greatest of all.
-use mathlib.Core.List.{List}
-use Prim.Native.Nat.{ℕ, ◌+◌, ◌*◌, ◌-◌, ◌<◌}
+use Prim.Native.Nat.{◌+◌, ◌*◌, ◌-◌, ◌<◌}
 use native.Mathlib.Nat.{lt_of_lt_of_le}
 use native.Mathlib.Omega.{arith}
 use lib.Bits.{bit_and}
@@ -9,12 +8,10 @@ use lib.Pow.{pow_mono}
 use Rattle.plain.specs.At.{at}
 use Rattle.sets.proofs.Bits.{mem-lt}
 use Rattle.sets.proofs.Walks.{Walk, walk}
-use Rattle.shares.specs.Words.{offset_at, deadline_at}
-use Rattle.rules.proofs.Lowest.{Left, left-all, left_less, left-none}
+use Rattle.rules.proofs.Lowest.{left-all, left_less, left-none}
 use Rattle.rules.proofs.parents_end.Goals as goal
 use Rattle.rules.proofs.parents_end.Goals.{else-latest-end, then-latest-end}
 use Rattle.rules.proofs.parents_end.Goals.{In-loop-left}
-use Rattle.rules.proofs.parents_end.Invariants.{end_of}
 
 pub loop-left-init : goal.loop-left-init
 loop-left-init c = left-all c.requires.2

@@ -1,16 +1,8 @@
-use mathlib.Core.Logic.{⊎_elim}
 use mathlib.Core.List.{List}
-use Prim.Native.Nat.{ℕ, ◌+◌, ◌*◌, ◌-◌, ◌<◌}
-use native.Mathlib.Nat.{lt_of_lt_of_le}
-use native.Mathlib.Omega.{arith}
-use lib.Bits.{bit_and}
-use lib.Count.{count_trailing_zeros}
-use lib.Pow.{pow_mono}
+use Prim.Native.Nat.{ℕ, ◌+◌}
 use Rattle.plain.specs.At.{at}
-use Rattle.sets.proofs.Bits.{mem-lt}
-use Rattle.sets.proofs.Walks.{Walk, walk}
 use Rattle.shares.specs.Words.{offset_at, deadline_at}
-use Rattle.rules.proofs.Lowest.{Left, left-all, left_less, left-none}
+use Rattle.rules.proofs.Lowest.{Left}
 use Rattle.rules.proofs.parents_end.Given as goal
 
 -- a node's offset plus deadline

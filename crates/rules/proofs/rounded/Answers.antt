@@ -1,16 +1,12 @@
 -- `rules::rounded` meets its contract: the densities passed are ours, and the first that isn't makes the test fail.
 use mathlib.Core.Path.{◌≡◌, sym, ◌∙◌}
-use mathlib.Core.Bool.{Bool}
-use mathlib.Core.List.{List}
-use Prim.Native.Nat.{ℕ, ◌-◌, ◌<◌}
+use Prim.Native.Nat.{◌<◌}
 use native.Mathlib.Omega.{arith}
 use lib.Dec.{eqb}
 use borrow.Author.Tests.{eq-eqb, ne_eqb}
 use Rattle.plain.specs.At.{at}
-use Rattle.shares.specs.Density.{millionths}
-use Rattle.shares.specs.Words.{deadline_at, density_at}
 use Rattle.rules.proofs.Asked.{over-high, deadline-low}
-use Rattle.rules.proofs.Turns.{Tried, tried-none, tried-more, tried-fails, tried-all, compared}
+use Rattle.rules.proofs.Turns.{tried-none, tried-more, tried-fails, tried-all, compared}
 use Rattle.rules.proofs.rounded.Goals as goal
 use Rattle.rules.proofs.rounded.Goals.{After-node_word-in-loop-v, In-loop-v}
 use Rattle.rules.proofs.rounded.Invariants.{passes}

@@ -1,19 +1,13 @@
 -- `rules::same_cut` meets its contract: the cut passed are the own plan's, and the first that isn't makes the test fail.
 use mathlib.Core.Path.{refl}
-use mathlib.Core.Bool.{Bool}
-use mathlib.Core.List.{List}
-use Prim.Native.Nat.{ℕ, ◌-◌, ◌<◌}
+use Prim.Native.Nat.{◌<◌}
 use native.Mathlib.Omega.{arith}
-use lib.Dec.{eqb}
 use borrow.Author.Tests.{eq-eqb, ne_eqb}
 use Rattle.plain.specs.At.{at}
-use Rattle.plain.specs.Tests.{both}
 use Rattle.plain.proofs.Tests.{pick_yes, pick_no, passed, failed}
-use Rattle.shares.specs.Words.{threads_at, length_at}
-use Rattle.rules.proofs.Turns.{Tried, tried-none, tried-more, tried-fails, tried-all}
+use Rattle.rules.proofs.Turns.{tried-none, tried-more, tried-fails, tried-all}
 use Rattle.rules.proofs.same_cut.Goals as goal
 use Rattle.rules.proofs.same_cut.Goals.{In-loop-j}
-use Rattle.rules.proofs.same_cut.Invariants.{passes}
 
 pub returns-then-plan-own : goal.returns-then-plan-own
 returns-then-plan-own c = pick_no _ (ne_eqb _ _ c.if-plan-own.true) refl

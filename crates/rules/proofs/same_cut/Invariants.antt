@@ -1,15 +1,11 @@
-use mathlib.Core.Path.{refl}
 use mathlib.Core.Bool.{Bool}
 use mathlib.Core.List.{List}
-use Prim.Native.Nat.{ℕ, ◌-◌, ◌<◌}
-use native.Mathlib.Omega.{arith}
+use Prim.Native.Nat.{ℕ, ◌-◌}
 use lib.Dec.{eqb}
-use borrow.Author.Tests.{eq-eqb, ne_eqb}
 use Rattle.plain.specs.At.{at}
 use Rattle.plain.specs.Tests.{both}
-use Rattle.plain.proofs.Tests.{pick_yes, pick_no, passed, failed}
 use Rattle.shares.specs.Words.{threads_at, length_at}
-use Rattle.rules.proofs.Turns.{Tried, tried-none, tried-more, tried-fails, tried-all}
+use Rattle.rules.proofs.Turns.{Tried}
 use Rattle.rules.proofs.same_cut.Given as goal
 
 -- the test of one segment

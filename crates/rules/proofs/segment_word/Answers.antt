@@ -1,5 +1,4 @@
 -- `rules::segment_word` meets its contract: the word stands in the plan, at its place of the triple.
-use native.Mathlib.Omega.{arith}
 use Rattle.rules.proofs.Places.{segment-place}
 use Rattle.rules.proofs.segment_word.Goals as goal
 

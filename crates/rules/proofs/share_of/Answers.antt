@@ -1,11 +1,8 @@
 -- `rules::share_of` meets its contract: after j turns the time is where segment j begins, and the share is what the first j add.
-use Prim.Native.Nat.{◌-◌}
 use native.Mathlib.Omega.{arith}
-use borrow.Author.Rules.{rules}
-use Rattle.plain.specs.At.{at}
 use Rattle.rules.specs.Inner.Own.{SharedIn}
 use Rattle.rules.proofs.Asked.{segments-same, given-low}
-use Rattle.rules.proofs.Windows.{Met, met-none, met-more, met_all, time-fits, share-fits}
+use Rattle.rules.proofs.Windows.{met-none, met-more, met_all, time-fits, share-fits}
 use Rattle.rules.proofs.share_of.Goals as goal
 use Rattle.rules.proofs.share_of.Goals.{else-runs_through, then-runs_through}
 use Rattle.rules.proofs.share_of.Goals.{In-loop-j}

@@ -1,11 +1,6 @@
-use mathlib.Core.Logic.{⊎_elim}
 use Prim.Native.Nat.{◌-◌}
-use native.Mathlib.Omega.{arith}
-use borrow.Author.Rules.{rules}
 use Rattle.plain.specs.At.{at}
-use Rattle.rules.specs.Inner.Own.{SharedIn}
-use Rattle.rules.proofs.Asked.{segments-same, given-low}
-use Rattle.rules.proofs.Windows.{Met, met-none, met-more, met_all, time-fits, share-fits}
+use Rattle.rules.proofs.Windows.{Met}
 use Rattle.rules.proofs.share_of.Given as goal
 
 abbrev pub invariant-loop-j : goal.invariant-loop-j

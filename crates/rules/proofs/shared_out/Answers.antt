@@ -1,10 +1,7 @@
 -- `rules::shared_out` meets its contract: what is left and the numerators taken from it make up the whole.
-use Prim.Native.Nat.{◌*◌, ◌-◌}
 use native.Mathlib.Omega.{arith}
-use Rattle.plain.specs.At.{at}
-use Rattle.shares.specs.Words.{numerator_at}
 use Rattle.rules.proofs.Asked.{whole-fits}
-use Rattle.rules.proofs.Rests.{Rest, rest_all, rest_more, rest-short, rest-none}
+use Rattle.rules.proofs.Rests.{rest_all, rest_more, rest-short, rest-none}
 use Rattle.rules.proofs.shared_out.Goals as goal
 
 pub overflow_mul-left : goal.overflow_mul-left

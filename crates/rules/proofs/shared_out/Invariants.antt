@@ -1,9 +1,7 @@
 use Prim.Native.Nat.{◌*◌, ◌-◌}
-use native.Mathlib.Omega.{arith}
 use Rattle.plain.specs.At.{at}
 use Rattle.shares.specs.Words.{numerator_at}
-use Rattle.rules.proofs.Asked.{whole-fits}
-use Rattle.rules.proofs.Rests.{Rest, rest_all, rest_more, rest-short, rest-none}
+use Rattle.rules.proofs.Rests.{Rest}
 use Rattle.rules.proofs.shared_out.Given as goal
 
 abbrev pub invariant-loop-j : goal.invariant-loop-j

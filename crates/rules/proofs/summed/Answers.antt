@@ -1,15 +1,11 @@
 -- `rules::summed` meets its contract: the deadlines passed are the shares, and the first that isn't makes the test fail.
 use mathlib.Core.Path.{◌≡◌, sym, ◌∙◌}
-use mathlib.Core.Bool.{Bool}
-use mathlib.Core.List.{List}
-use Prim.Native.Nat.{ℕ, ◌-◌, ◌<◌}
+use Prim.Native.Nat.{◌<◌}
 use native.Mathlib.Omega.{arith}
 use lib.Dec.{eqb}
 use borrow.Author.Tests.{eq-eqb, ne_eqb}
 use Rattle.plain.specs.At.{at}
-use Rattle.shares.specs.Words.{numerator_at, deadline_at}
-use Rattle.rules.specs.Inner.Own.{windowed}
-use Rattle.rules.proofs.Turns.{Tried, tried-none, tried-more, tried-fails, tried-all, compared}
+use Rattle.rules.proofs.Turns.{tried-none, tried-more, tried-fails, tried-all, compared}
 use Rattle.rules.proofs.summed.Goals as goal
 use Rattle.rules.proofs.summed.Goals.{After-share_of, In-loop-v}
 use Rattle.rules.proofs.summed.Invariants.{passes}

@@ -1,14 +1,11 @@
-use mathlib.Core.Path.{◌≡◌, sym, ◌∙◌}
 use mathlib.Core.Bool.{Bool}
 use mathlib.Core.List.{List}
-use Prim.Native.Nat.{ℕ, ◌-◌, ◌<◌}
-use native.Mathlib.Omega.{arith}
+use Prim.Native.Nat.{ℕ, ◌-◌}
 use lib.Dec.{eqb}
-use borrow.Author.Tests.{eq-eqb, ne_eqb}
 use Rattle.plain.specs.At.{at}
 use Rattle.shares.specs.Words.{numerator_at, deadline_at}
 use Rattle.rules.specs.Inner.Own.{windowed}
-use Rattle.rules.proofs.Turns.{Tried, tried-none, tried-more, tried-fails, tried-all, compared}
+use Rattle.rules.proofs.Turns.{Tried}
 use Rattle.rules.proofs.summed.Given as goal
 
 -- the test of one node

@@ -1,16 +1,12 @@
 -- `rules::thinned` meets its contract: the segments passed are thin, and the first that isn't makes the test fail.
 use mathlib.Core.Path.{◌≡◌}
-use mathlib.Core.Bool.{Bool}
-use mathlib.Core.List.{List}
-use Prim.Native.Nat.{ℕ, ◌*◌, ◌-◌, ◌≤◌, ◌<◌}
+use Prim.Native.Nat.{◌*◌, ◌≤◌, ◌<◌}
 use native.Mathlib.Omega.{arith}
-use lib.Dec.{leb}
 use Rattle.plain.specs.At.{at}
 use Rattle.plain.proofs.Tests.{passed, failed}
-use Rattle.shares.specs.Words.{threads_at, length_at, numerator_at}
 use Rattle.rules.proofs.Asked.{piece-low, whole-low}
 use Rattle.rules.proofs.Ceilings.{regrouped}
-use Rattle.rules.proofs.Turns.{Tried, tried-none, tried-more, tried-fails, tried-all}
+use Rattle.rules.proofs.Turns.{tried-none, tried-more, tried-fails, tried-all}
 use Rattle.rules.proofs.thinned.Goals as goal
 use Rattle.rules.proofs.thinned.Goals.{After-is_thin, After-segment_word-in-loop-j, In-loop-j}
 use Rattle.rules.proofs.thinned.Invariants.{passes}

@@ -1,15 +1,10 @@
-use mathlib.Core.Path.{◌≡◌}
 use mathlib.Core.Bool.{Bool}
 use mathlib.Core.List.{List}
-use Prim.Native.Nat.{ℕ, ◌*◌, ◌-◌, ◌≤◌, ◌<◌}
-use native.Mathlib.Omega.{arith}
+use Prim.Native.Nat.{ℕ, ◌*◌, ◌-◌}
 use lib.Dec.{leb}
 use Rattle.plain.specs.At.{at}
-use Rattle.plain.proofs.Tests.{passed, failed}
 use Rattle.shares.specs.Words.{threads_at, length_at, numerator_at}
-use Rattle.rules.proofs.Asked.{piece-low, whole-low}
-use Rattle.rules.proofs.Ceilings.{regrouped}
-use Rattle.rules.proofs.Turns.{Tried, tried-none, tried-more, tried-fails, tried-all}
+use Rattle.rules.proofs.Turns.{Tried}
 use Rattle.rules.proofs.thinned.Given as goal
 
 -- the test of one segment

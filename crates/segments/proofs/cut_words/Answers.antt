@@ -5,8 +5,6 @@ use native.Mathlib.Numerals.{add-one}
 use native.Mathlib.Omega.{arith}
 use lib.ListN.{length-set}
 use Rattle.plain.specs.At.{at}
-use Rattle.segments.specs.Inner.Ended.{ended, length_by}
-use Rattle.segments.specs.Inner.Words.{CutWords}
 use Rattle.segments.proofs.Words.{words-none, words_more}
 use Rattle.segments.proofs.cut_words.Goals as goal
 use Rattle.segments.proofs.cut_words.Goals.{In-loop-j}

@@ -1,12 +1,8 @@
-use mathlib.Core.Path.{◌≡◌, refl}
-use Prim.Native.Nat.{◌-◌, ◌≤◌, ◌<◌}
-use native.Mathlib.Numerals.{add-one}
-use native.Mathlib.Omega.{arith}
-use lib.ListN.{length-set}
+use mathlib.Core.Path.{◌≡◌}
+use Prim.Native.Nat.{◌-◌, ◌≤◌}
 use Rattle.plain.specs.At.{at}
 use Rattle.segments.specs.Inner.Ended.{ended, length_by}
 use Rattle.segments.specs.Inner.Words.{CutWords}
-use Rattle.segments.proofs.Words.{words-none, words_more}
 use Rattle.segments.proofs.cut_words.Given as goal
 
 abbrev pub invariant-loop-j : goal.invariant-loop-j

@@ -2,7 +2,6 @@
 use mathlib.Core.Path.{◌≡◌, ap}
 use Prim.Native.Nat.{ℕ, ◌^◌}
 use native.Mathlib.Omega.{arith}
-use borrow.Author.Rules.{rules}
 use Rattle.sets.proofs.Bits.{one_shl}
 use Rattle.sets.proofs.Words.{all-word}
 use Rattle.sets.proofs.all_below.Goals as goal

@@ -1,7 +1,6 @@
 -- `sets::is_member` meets its contract: shifting a word right by k and masking leaves its digit at k.
 use mathlib.Core.Path.{ap, ◌∙◌}
 use Prim.Native.Nat.{ℕ, ◌^◌, ◌/◌}
-use borrow.Author.Rules.{rules}
 use lib.Dec.{eqb}
 use lib.Bits.{and_mask}
 use Rattle.sets.proofs.Bits.{bit-shift}

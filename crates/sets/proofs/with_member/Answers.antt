@@ -1,6 +1,5 @@
 -- `sets::with_member` meets its contract: `1 << k` is the word of k alone, and joining it puts k in.
 use mathlib.Core.Path.{ap, sym, ◌∙◌}
-use borrow.Author.Rules.{rules}
 use lib.Bits.{bit_or}
 use Rattle.sets.proofs.Bits.{one_shl, with-or}
 use Rattle.sets.proofs.with_member.Goals as goal

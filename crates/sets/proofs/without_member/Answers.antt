@@ -1,7 +1,6 @@
 -- `sets::without_member` meets its contract: `1 << k` is the word of k alone, and masking by all others leaves k out.
 use mathlib.Core.Path.{ap, ◌∙◌}
 use Prim.Native.Nat.{ℕ, ◌-◌, ◌^◌}
-use borrow.Author.Rules.{rules}
 use lib.Bits.{bit_and}
 use Rattle.sets.proofs.Bits.{one_shl}
 use Rattle.sets.proofs.Without.{without-and}

@@ -2,7 +2,6 @@
 use mathlib.Core.Path.{◌≡◌, sym, ap, ◌∙◌}
 use Prim.Native.Nat.{◌≤◌}
 use native.Mathlib.Omega.{arith}
-use borrow.Author.Rules.{rules}
 use Rattle.shares.specs.declared.Kinds.{Kinds}
 use Rattle.shares.specs.Heavy.{heavies}
 use Rattle.shares.specs.Words.{threads_at}

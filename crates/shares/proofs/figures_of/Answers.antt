@@ -1,12 +1,10 @@
 -- `shares::figures_of` meets its contract. The loop's invariant: sum and largest are those of the densities read; 64 densities of at most
 -- 2,000,000 cannot wrap.
 use mathlib.Core.Path.{◌≡◌, sym}
-use Prim.Native.Nat.{◌+◌, ◌*◌, ◌-◌, ◌≤◌}
+use Prim.Native.Nat.{◌+◌, ◌*◌}
 use native.Mathlib.Omega.{arith}
 use Rattle.plain.specs.At.{at}
-use Rattle.plain.specs.Sums.{sum_to, max_to}
 use Rattle.plain.proofs.Sums.{sum_to-none, sum_to-more, max_to-none, max_to-more}
-use Rattle.tables.specs.Limits.{density_max}
 use Rattle.shares.proofs.figures_of.Goals as goal
 use Rattle.shares.proofs.figures_of.Goals.{else-largest-density, then-largest-density}
 

@@ -1,10 +1,7 @@
-use mathlib.Core.Path.{◌≡◌, sym}
-use mathlib.Core.Logic.{⊎_elim}
+use mathlib.Core.Path.{◌≡◌}
 use Prim.Native.Nat.{◌+◌, ◌*◌, ◌-◌, ◌≤◌}
-use native.Mathlib.Omega.{arith}
 use Rattle.plain.specs.At.{at}
 use Rattle.plain.specs.Sums.{sum_to, max_to}
-use Rattle.plain.proofs.Sums.{sum_to-none, sum_to-more, max_to-none, max_to-more}
 use Rattle.tables.specs.Limits.{density_max}
 use Rattle.shares.proofs.figures_of.Given as goal
 

@@ -1,13 +1,11 @@
 -- `shares::fill_nodes` meets its contract: the triples written so far stand in front of the old words.
 use mathlib.Core.Path.{◌≡◌, refl}
-use Prim.Native.Nat.{◌-◌, ◌≤◌}
+use Prim.Native.Nat.{◌≤◌}
 use native.Mathlib.Omega.{arith}
-use lib.ListN.{length, length-set}
+use lib.ListN.{length-set}
 use Rattle.plain.specs.At.{at}
 use Rattle.tables.specs.Limits.{count_max}
-use Rattle.shares.specs.Density.{millionths}
-use Rattle.shares.specs.Inner.Spans.{offset_by, span_by}
-use Rattle.shares.proofs.Triples.{Tripled, tripled-none, tripled-more}
+use Rattle.shares.proofs.Triples.{tripled-none, tripled-more}
 use Rattle.shares.proofs.fill_nodes.Goals as goal
 use Rattle.shares.proofs.fill_nodes.Goals.{In-loop-v}
 

@@ -1,12 +1,10 @@
-use mathlib.Core.Path.{◌≡◌, refl}
+use mathlib.Core.Path.{◌≡◌}
 use Prim.Native.Nat.{◌-◌, ◌≤◌}
-use native.Mathlib.Omega.{arith}
-use lib.ListN.{length, length-set}
+use lib.ListN.{length}
 use Rattle.plain.specs.At.{at}
-use Rattle.tables.specs.Limits.{count_max}
 use Rattle.shares.specs.Density.{millionths}
 use Rattle.shares.specs.Inner.Spans.{offset_by, span_by}
-use Rattle.shares.proofs.Triples.{Tripled, tripled-none, tripled-more}
+use Rattle.shares.proofs.Triples.{Tripled}
 use Rattle.shares.proofs.fill_nodes.Given as goal
 
 abbrev pub invariant-loop-v : goal.invariant-loop-v

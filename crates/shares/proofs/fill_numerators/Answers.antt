@@ -1,8 +1,6 @@
 -- `shares::fill_numerators` meets its contract: after j turns the first j numerators stand, and threads and lengths are still those lent.
 use mathlib.Core.Path.{◌≡◌}
-use Prim.Native.Nat.{◌-◌, ◌≤◌}
 use native.Mathlib.Omega.{arith}
-use Rattle.shares.specs.Inner.Written.{Numbered}
 use Rattle.shares.proofs.Numbering.{numbered-none, numbered_more, threads-kept, lengths-kept}
 use Rattle.shares.proofs.fill_numerators.Goals as goal
 

@@ -1,8 +1,5 @@
-use mathlib.Core.Path.{◌≡◌}
 use Prim.Native.Nat.{◌-◌, ◌≤◌}
-use native.Mathlib.Omega.{arith}
 use Rattle.shares.specs.Inner.Written.{Numbered}
-use Rattle.shares.proofs.Numbering.{numbered-none, numbered_more, threads-kept, lengths-kept}
 use Rattle.shares.proofs.fill_numerators.Given as goal
 
 abbrev pub invariant-loop-j : goal.invariant-loop-j

@@ -1,6 +1,5 @@
 -- `shares::is_heavy` meets its contract: the code is the definition's own test.
 use mathlib.Core.Path.{refl}
-use borrow.Author.Rules.{rules}
 use Rattle.shares.specs.Heavy.{is_heavy}
 use Rattle.shares.proofs.Bounds.{test_fits}
 use Rattle.shares.proofs.is_heavy.Goals as goal

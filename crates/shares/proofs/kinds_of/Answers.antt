@@ -1,9 +1,9 @@
 -- `shares::kinds_of` meets its contract: after j turns the three sums are those of the first j segments.
 use mathlib.Core.Path.{◌≡◌, sym, ◌∙◌}
-use Prim.Native.Nat.{◌+◌, ◌*◌, ◌-◌, ◌≤◌}
+use Prim.Native.Nat.{◌+◌, ◌*◌, ◌≤◌}
 use native.Mathlib.Omega.{arith}
 use Rattle.shares.specs.Words.{threads_at, length_at}
-use Rattle.shares.proofs.Heavies.{Counted, counted_none, counted-heavy, counted-light, heavies-le, heavy-under, light-under}
+use Rattle.shares.proofs.Heavies.{counted_none, counted-heavy, counted-light, heavies-le, heavy-under, light-under}
 use Rattle.shares.proofs.kinds_of.Goals as goal
 use Rattle.shares.proofs.kinds_of.Goals.{else-is_heavy, then-is_heavy}
 use Rattle.shares.proofs.kinds_of.Goals.{In-loop-j}

@@ -1,9 +1,6 @@
-use mathlib.Core.Path.{◌≡◌, sym, ◌∙◌}
-use mathlib.Core.Logic.{⊎_elim}
-use Prim.Native.Nat.{◌+◌, ◌*◌, ◌-◌, ◌≤◌}
-use native.Mathlib.Omega.{arith}
+use Prim.Native.Nat.{◌-◌, ◌≤◌}
 use Rattle.shares.specs.Words.{threads_at, length_at}
-use Rattle.shares.proofs.Heavies.{Counted, counted_none, counted-heavy, counted-light, heavies-le, heavy-under, light-under}
+use Rattle.shares.proofs.Heavies.{Counted}
 use Rattle.shares.proofs.kinds_of.Given as goal
 
 abbrev pub invariant-loop-j : goal.invariant-loop-j

@@ -1,7 +1,6 @@
 -- `shares::millionths` meets its contract: the code is the definition's own test and division, and the limits keep every product in 64 bits.
 use mathlib.Core.Path.{sym}
 use native.Mathlib.Omega.{arith}
-use borrow.Author.Rules.{rules}
 use Rattle.shares.proofs.Densities.{undivided, divided}
 use Rattle.shares.proofs.Bounds.{amount-fits}
 use Rattle.shares.proofs.millionths.Goals as goal

@@ -1,7 +1,6 @@
 -- `shares::numerator_of` meets its contract: the test picks the same product as the definition.
 use mathlib.Core.Path.{sym, ◌∙◌}
 use native.Mathlib.Omega.{arith}
-use borrow.Author.Rules.{rules}
 use Rattle.shares.proofs.Deals.{numerator-heavy, numerator-light}
 use Rattle.shares.proofs.Bounds.{work-fits, heavy-fits, light-fits}
 use Rattle.shares.proofs.numerator_of.Goals as goal

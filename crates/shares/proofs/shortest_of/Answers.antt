@@ -1,10 +1,8 @@
 -- `shares::shortest_of` meets its contract. The loop's invariant: the shortest is the smallest of the deadlines read.
 use mathlib.Core.Path.{◌≡◌, sym}
-use Prim.Native.Nat.{◌+◌, ◌*◌, ◌-◌, ◌≤◌}
+use Prim.Native.Nat.{◌+◌, ◌*◌}
 use native.Mathlib.Omega.{arith}
-use borrow.Author.Rules.{rules}
 use Rattle.plain.specs.At.{at}
-use Rattle.shares.specs.Figures.{smallest_to}
 use Rattle.shares.proofs.Smallest.{smallest-none, smallest-more}
 use Rattle.shares.proofs.shortest_of.Goals as goal
 

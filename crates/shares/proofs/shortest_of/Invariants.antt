@@ -1,10 +1,7 @@
-use mathlib.Core.Path.{◌≡◌, sym}
+use mathlib.Core.Path.{◌≡◌}
 use Prim.Native.Nat.{◌+◌, ◌*◌, ◌-◌, ◌≤◌}
-use native.Mathlib.Omega.{arith}
-use borrow.Author.Rules.{rules}
 use Rattle.plain.specs.At.{at}
 use Rattle.shares.specs.Figures.{smallest_to}
-use Rattle.shares.proofs.Smallest.{smallest-none, smallest-more}
 use Rattle.shares.proofs.shortest_of.Given as goal
 
 abbrev pub invariant-loop-v : goal.invariant-loop-v

@@ -1,9 +1,7 @@
 -- `shares::sums_of` meets its contract: after j turns entries 0 to j are the sums, and the running sum is the last of them.
-use mathlib.Core.Path.{◌≡◌, sym}
-use Prim.Native.Nat.{◌+◌, ◌-◌, ◌≤◌}
+use mathlib.Core.Path.{sym}
 use native.Mathlib.Omega.{arith}
-use Rattle.plain.specs.Sums.{sum_to}
-use Rattle.plain.proofs.Lists.{Filled, fill-zeros, fill_more}
+use Rattle.plain.proofs.Lists.{fill-zeros, fill_more}
 use Rattle.plain.proofs.Sums.{sum_to-none, sum_to-more, sum-under}
 use Rattle.shares.specs.Words.{numerator_at}
 use Rattle.shares.proofs.sums_of.Goals as goal

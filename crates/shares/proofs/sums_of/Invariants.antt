@@ -1,9 +1,7 @@
-use mathlib.Core.Path.{◌≡◌, sym}
+use mathlib.Core.Path.{◌≡◌}
 use Prim.Native.Nat.{◌+◌, ◌-◌, ◌≤◌}
-use native.Mathlib.Omega.{arith}
 use Rattle.plain.specs.Sums.{sum_to}
-use Rattle.plain.proofs.Lists.{Filled, fill-zeros, fill_more}
-use Rattle.plain.proofs.Sums.{sum_to-none, sum_to-more, sum-under}
+use Rattle.plain.proofs.Lists.{Filled}
 use Rattle.shares.specs.Words.{numerator_at}
 use Rattle.shares.proofs.sums_of.Given as goal
 

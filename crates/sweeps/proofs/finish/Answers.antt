@@ -1,11 +1,9 @@
 -- `sweeps::finish` meets its contract: each turn takes one step from state to state, and the first node has its turn where it finishes now.
 use mathlib.Core.Logic.{⊎_elim}
-use mathlib.Core.List.{List}
-use Prim.Native.Nat.{ℕ, ◌-◌, ◌≤◌, ◌<◌}
+use Prim.Native.Nat.{◌≤◌, ◌<◌}
 use native.Mathlib.Nat.{eq-or-lt_of_le}
 use native.Mathlib.Omega.{arith}
 use Rattle.plain.specs.At.{at}
-use Rattle.diagrams.specs.Inner.Sweep.{Sweep}
 use Rattle.diagrams.proofs.Steps.{head-low, finish-one}
 use Rattle.sweeps.proofs.finish.Goals as goal
 use Rattle.sweeps.proofs.finish.Goals.{In-loop-head}

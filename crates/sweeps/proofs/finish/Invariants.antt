@@ -1,11 +1,6 @@
-use mathlib.Core.Logic.{⊎_elim}
 use mathlib.Core.List.{List}
-use Prim.Native.Nat.{ℕ, ◌-◌, ◌≤◌, ◌<◌}
-use native.Mathlib.Nat.{eq-or-lt_of_le}
-use native.Mathlib.Omega.{arith}
-use Rattle.plain.specs.At.{at}
+use Prim.Native.Nat.{ℕ, ◌-◌, ◌≤◌}
 use Rattle.diagrams.specs.Inner.Sweep.{Sweep}
-use Rattle.diagrams.proofs.Steps.{head-low, finish-one}
 use Rattle.sweeps.proofs.finish.Given as goal
 
 abbrev pub invariant-loop-head : goal.invariant-loop-head

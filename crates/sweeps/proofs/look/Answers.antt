@@ -1,13 +1,11 @@
 -- `sweeps::look` meets its contract: each turn takes one step from state to state, and one node fewer is left.
-use mathlib.Core.List.{List}
-use Prim.Native.Nat.{ℕ, ◌+◌, ◌-◌, ◌^◌, ◌≤◌, ◌<◌}
+use Prim.Native.Nat.{◌+◌, ◌-◌, ◌^◌, ◌≤◌, ◌<◌}
 use native.Mathlib.Omega.{arith}
 use lib.Bits.{bit_and}
 use lib.Count.{count_trailing_zeros}
 use Rattle.plain.specs.At.{at}
 use Rattle.sets.proofs.Walks.{Walk, walk}
 use Rattle.sets.proofs.Words.{missing}
-use Rattle.diagrams.specs.Inner.Sweep.{Sweep}
 use Rattle.diagrams.proofs.Steps.{look-room, look-fits, look-put, look-starts, look-waits}
 use Rattle.sweeps.proofs.look.Goals as goal
 use Rattle.sweeps.proofs.look.Goals.{In-loop-left}

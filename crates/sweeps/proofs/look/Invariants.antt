@@ -1,13 +1,6 @@
 use mathlib.Core.List.{List}
-use Prim.Native.Nat.{ℕ, ◌+◌, ◌-◌, ◌^◌, ◌≤◌, ◌<◌}
-use native.Mathlib.Omega.{arith}
-use lib.Bits.{bit_and}
-use lib.Count.{count_trailing_zeros}
-use Rattle.plain.specs.At.{at}
-use Rattle.sets.proofs.Walks.{Walk, walk}
-use Rattle.sets.proofs.Words.{missing}
+use Prim.Native.Nat.{ℕ, ◌^◌, ◌<◌}
 use Rattle.diagrams.specs.Inner.Sweep.{Sweep}
-use Rattle.diagrams.proofs.Steps.{look-room, look-fits, look-put, look-starts, look-waits}
 use Rattle.sweeps.proofs.look.Given as goal
 
 abbrev pub invariant-loop-left : goal.invariant-loop-left

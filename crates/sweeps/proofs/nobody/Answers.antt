@@ -1,5 +1,4 @@
 -- `sweeps::nobody` meets its contract: it is the record itself, with the set of all nodes.
-use borrow.Author.Rules.{rules}
 use Rattle.sweeps.proofs.nobody.Goals as goal
 
 pub returns : goal.returns

@@ -1,7 +1,7 @@
 -- `sweeps::sweep` meets its contract: a turn looks at who is left; where all that started are done, the run is at its end, and else the time
 -- moves to the first finish, and all that finish there are taken off and leave who waited for them.
 use mathlib.Core.Path.{refl}
-use Prim.Native.Nat.{◌-◌, ◌^◌, ◌<◌, zero-le}
+use Prim.Native.Nat.{◌^◌, ◌<◌, zero-le}
 use native.Mathlib.Omega.{arith}
 use Rattle.plain.specs.At.{at}
 use Rattle.diagrams.specs.Inner.Sweep.{Between}

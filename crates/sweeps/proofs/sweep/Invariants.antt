@@ -1,10 +1,5 @@
-use mathlib.Core.Path.{refl}
-use Prim.Native.Nat.{◌-◌, ◌^◌, ◌<◌, zero-le}
-use native.Mathlib.Omega.{arith}
-use Rattle.plain.specs.At.{at}
+use Prim.Native.Nat.{◌-◌}
 use Rattle.diagrams.specs.Inner.Sweep.{Between}
-use Rattle.diagrams.proofs.Steps.{sweep-none, looked, head-low, move-low, Onward, onward}
-use Rattle.diagrams.proofs.Ending.{sweep-end}
 use Rattle.sweeps.proofs.sweep.Given as goal
 
 abbrev pub invariant-loop-begun : goal.invariant-loop-begun

@@ -2,14 +2,14 @@
 use mathlib.Core.Path.{◌≡◌, refl, sym, ap, ◌∙◌}
 use mathlib.Core.Logic.{⊎_elim}
 use mathlib.Core.List.{List, map}
-use Prim.Native.Nat.{ℕ, ◌+◌, ◌-◌, ◌≤◌, ◌<◌}
+use Prim.Native.Nat.{ℕ, ◌+◌, ◌≤◌, ◌<◌}
 use native.Mathlib.Nat.{not-suc-le-zero}
 use native.Mathlib.Omega.{arith}
 use borrow.Author.Count.{below_more}
 use lib.ListN.{length, set, length-set, length-map, get_or-eq_default}
 use lib.Seq.{ext_get_or, get_or-set_other}
 use Rattle.plain.specs.At.{at}
-use Rattle.plain.proofs.Lists.{lt-or-ge, Filled, fill_more}
+use Rattle.plain.proofs.Lists.{lt-or-ge, fill_more}
 use Rattle.tables.specs.Cost.{with_cost}
 use Rattle.tables.proofs.Cost.{at-cost}
 use Rattle.tables.proofs.add_cost.Goals as goal

@@ -1,5 +1,4 @@
 -- `tables::all_zero` meets its contract: the executions passed are 0, and the first that is not makes the test fail.
-use Prim.Native.Nat.{ℕ, ◌-◌, ◌≤◌, ◌<◌}
 use mathlib.Core.Path.{◌≡◌, sym}
 use native.Mathlib.Nat.{not-suc-le-zero}
 use native.Mathlib.Omega.{arith}

@@ -1,10 +1,6 @@
 use Prim.Native.Nat.{ℕ, ◌-◌, ◌≤◌, ◌<◌}
-use mathlib.Core.Path.{◌≡◌, sym}
-use native.Mathlib.Nat.{not-suc-le-zero}
-use native.Mathlib.Omega.{arith}
-use borrow.Author.Count.{below_more}
+use mathlib.Core.Path.{◌≡◌}
 use Rattle.plain.specs.At.{at}
-use Rattle.tables.proofs.Runs.{zero-all, runs-some}
 use Rattle.tables.proofs.all_zero.Given as goal
 
 abbrev pub invariant-loop-v : goal.invariant-loop-v

@@ -1,9 +1,7 @@
 -- `ways::weigh` meets its contract: after v turns work and longest are those of the first v weights, and 64 weights fit a word.
 use mathlib.Core.Path.{◌≡◌, sym}
-use Prim.Native.Nat.{◌-◌, ◌≤◌}
 use native.Mathlib.Omega.{arith}
 use Rattle.plain.specs.At.{at}
-use Rattle.plain.specs.Sums.{sum_to, max_to}
 use Rattle.plain.proofs.Sums.{sum_to-none, sum_to-more, sum-under, max_to-none, max_to-more}
 use Rattle.ways.specs.Inner.Weights.{weight_max}
 use Rattle.ways.specs.Totals.{work_of, longest_of}

@@ -1,6 +1,5 @@
 -- `buildings::Tally::refused` meets its contract: beside the number stands nothing.
 use mathlib.Core.Path.{ap}
-use borrow.Author.Rules.{rules}
 use Rattle.buildings.specs.declared.Sums.{Sums}
 use Rattle.buildings.proofs.Tally.refused.Goals as goal
 

@@ -1,5 +1,4 @@
 -- `plans::Planning::accepted` meets its contract: the answer is the count, and the figures are handed on.
-use borrow.Author.Rules.{rules}
 use Rattle.plans.proofs.Planning.accepted.Goals as goal
 
 pub returns : goal.returns
