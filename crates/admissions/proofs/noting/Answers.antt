@@ -39,13 +39,13 @@ sound-so c =
 pub returns-then-not-sound : goal.returns-then-not-sound
 returns-then-not-sound c =
     let a = c.args in
-    leaves a.board.rows (unsound a.bytes.now a.words.now a.board.rows a.cost (first (goal.at.returns-then-not-sound c).Joined-densities_sound) (failed (sound-so (goal.at.returns-then-not-sound c).Joined-densities_sound) c.if-not-sound.true-raw))
+    leaves a.board.rows (unsound a.bytes.now a.words.now a.board.rows a.cost (first (goal.at.returns-then-not-sound c).Joined-densities_sound) (failed (sound-so (goal.at.returns-then-not-sound c).Joined-densities_sound) c.if-not-sound.true))
     c.unchanged-then-not-sound.ensures c.unsound.ensures
 
 going : (c : After-read_record-reading) → (let a = c.args in noting a.bytes.now a.words.now a.board.rows a.cost ≡ on_task (not_admitted a.board.rows a.words.now) (entered a.board.rows a.words.now) a.bytes.now a.cost)
 going c =
     let a = c.args in
-    sound a.bytes.now a.words.now a.board.rows a.cost (first (goal.at-After-read_record-reading c).Joined-densities_sound) (passed (sound-so (goal.at-After-read_record-reading c).Joined-densities_sound) c.if-not-sound.false-raw)
+    sound a.bytes.now a.words.now a.board.rows a.cost (first (goal.at-After-read_record-reading c).Joined-densities_sound) (passed (sound-so (goal.at-After-read_record-reading c).Joined-densities_sound) c.if-not-sound.false)
 
 pub returns-in_default-outcome : goal.returns-in_default-outcome
 returns-in_default-outcome c =

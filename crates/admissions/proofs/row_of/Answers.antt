@@ -13,27 +13,27 @@ use Rattle.plans.proofs.Read.{at-over}
 use Rattle.plans.proofs.Figures.{node_part, plan-fits, part-lent, figures-in, figures-read, shortest-read}
 use Rattle.admissions.specs.Inner.PlanIn.{PlanIn}
 use Rattle.admissions.proofs.row_of.Goals as goal
-use Rattle.admissions.proofs.row_of.Goals.{After-answer-1}
+use Rattle.admissions.proofs.row_of.Goals.{Start}
 
-abbrev Holds : (c : After-answer-1) → TaskTable → Type 0
+abbrev Holds : (c : Start) → TaskTable → Type 0
 Holds c t = let a = c.args in PlanIn t a.id a.n a.planning a.words.now
 
 -- the table that the caller has
-some-table : (c : After-answer-1) → (t : TaskTable) × Holds c t
+some-table : (c : Start) → (t : TaskTable) × Holds c t
 some-table c = c.requires
 
 -- the words of the nodes, and where they begin
-abbrev from : (c : After-answer-1) → ℕ
+abbrev from : (c : Start) → ℕ
 from c = let a = c.args in a.planning.answer.value - 3 * a.n
 
-abbrev nodes : (c : After-answer-1) → List ℕ
+abbrev nodes : (c : Start) → List ℕ
 nodes c = let w = c.args.words.now in take (length w - from c) (drop (from c) w)
 
-part : (c : After-answer-1) {t : TaskTable} (p : Holds c t) → nodes c ≡ node_part t p.old
+part : (c : Start) {t : TaskTable} (p : Holds c t) → nodes c ≡ node_part t p.old
 part c {t} p = part-lent t p.old p.plan (omega (arith, p.long, p.count))
 
 -- the whole plan lies in the words
-inside : (c : After-answer-1) → (let a = c.args in (3 * a.n ≤ a.planning.answer.value) × (a.planning.answer.value ≤ length a.words.now))
+inside : (c : Start) → (let a = c.args in (3 * a.n ≤ a.planning.answer.value) × (a.planning.answer.value ≤ length a.words.now))
 inside c =
     let p = (some-table c).1 in
     let all = ap length p.plan in
@@ -43,39 +43,39 @@ inside c =
 abbrev Readable : List ℕ → ℕ → Type 0
 Readable part n = ((n ≤ count_max) × (3 * n ≤ length part)) × ((v : ℕ) → v < n → at part (3 * v + 2) ≤ density_max)
 
-readable : (c : After-answer-1) → Readable (nodes c) c.args.n
+readable : (c : Start) → Readable (nodes c) c.args.n
 readable c =
     let p = (some-table c).1 in
     subst (Readable (nodes c)) (sym p.count) (figures-in p.totals.table p.old p.room (part c p))
 
 pub overflow_sub-from : goal.overflow_sub-from
-overflow_sub-from c = omega (arith, (inside (goal.at.overflow_sub-from c).After-answer-1).0)
+overflow_sub-from c = omega (arith, (inside (goal.at.overflow_sub-from c).Start).0)
 
 pub offset_bounds-words-from : goal.offset_bounds-words-from
-offset_bounds-words-from c = omega (arith, (inside (goal.at.offset_bounds-words-from c).After-answer-1).1)
+offset_bounds-words-from c = omega (arith, (inside (goal.at.offset_bounds-words-from c).Start).1)
 
 pub slice_bounds-nodes-count : goal.slice_bounds-nodes-count
-slice_bounds-nodes-count c = omega (arith, (inside (goal.at.slice_bounds-nodes-count c).After-answer-1).1)
+slice_bounds-nodes-count c = omega (arith, (inside (goal.at.slice_bounds-nodes-count c).Start).1)
 
 pub slice_bounds-nodes-start : goal.slice_bounds-nodes-start
-slice_bounds-nodes-start c = omega (arith, (inside (goal.at.slice_bounds-nodes-start c).After-answer-1).1)
+slice_bounds-nodes-start c = omega (arith, (inside (goal.at.slice_bounds-nodes-start c).Start).1)
 
 pub figures_of-figures-requires : goal.figures_of-figures-requires
 figures_of-figures-requires c =
-    let lent = readable (goal.at.figures_of-figures-requires c).After-answer-1 in
+    let lent = readable (goal.at.figures_of-figures-requires c).Start in
     record { n_le_count_max = lent.0; by_index = lent.1 }
 
 pub shortest_of-shortest-requires : goal.shortest_of-shortest-requires
-shortest_of-shortest-requires c = (readable (goal.at.shortest_of-shortest-requires c).After-answer-1).0
+shortest_of-shortest-requires c = (readable (goal.at.shortest_of-shortest-requires c).Start).0
 
 pub bounds-words-0 : goal.bounds-words-0
 bounds-words-0 c =
-    let p = (some-table (goal.at.bounds-words-0 c).After-answer-1).1 in
-    omega (arith, p.long, (inside (goal.at.bounds-words-0 c).After-answer-1).1)
+    let p = (some-table (goal.at.bounds-words-0 c).Start).1 in
+    omega (arith, p.long, (inside (goal.at.bounds-words-0 c).Start).1)
 
 pub returns : goal.returns
 returns c = λ t p.
-    let dense = c.figures_of-figures.ensures ∙ ap (λ (m : ℕ). figures m (λ v. at (nodes (goal.at.returns c).After-answer-1) (3 * v + 2))) p.count ∙ figures-read t p.old (part (goal.at.returns c).After-answer-1 p) in
-    let short = c.shortest_of-shortest.ensures ∙ ap (λ (m : ℕ). smallest_to m (λ v. at (nodes (goal.at.returns c).After-answer-1) (3 * v + 1))) p.count ∙ shortest-read t p.old (part (goal.at.returns c).After-answer-1 p) in
+    let dense = c.figures_of-figures.ensures ∙ ap (λ (m : ℕ). figures m (λ v. at (nodes (goal.at.returns c).Start) (3 * v + 2))) p.count ∙ figures-read t p.old (part (goal.at.returns c).Start p) in
+    let short = c.shortest_of-shortest.ensures ∙ ap (λ (m : ℕ). smallest_to m (λ v. at (nodes (goal.at.returns c).Start) (3 * v + 1))) p.count ∙ shortest-read t p.old (part (goal.at.returns c).Start p) in
     let over = ap (λ (w : List ℕ). at w 0) p.plan ∙ at-over t p.old in
     λ i. record { id = p.id i; nodes = p.count i; sum = (dense i).sum; largest = (dense i).largest; longest = p.totals.longest i; shortest = short i; over = over i }

@@ -15,7 +15,7 @@ use Rattle.buildings.specs.Inner.Tally.{tally_of, plus, with_number}
 use Rattle.buildings.proofs.Sized.{tally-sized}
 use Rattle.buildings.proofs.Walked.{counted_none, counted-more, counted-few, counted-sized, counted-most, counted-whole, counted-stopped}
 use Rattle.buildings.proofs.count_records.Goals as goal
-use Rattle.buildings.proofs.count_records.Goals.{After-tally_of-tally, After-words-1, In-Read}
+use Rattle.buildings.proofs.count_records.Goals.{After-tally_of-tally, In-loop-at, In-Read}
 
 pub loop-at-init : goal.loop-at-init
 loop-at-init c = let a = c.args in counted_none a.file.now a.cost (omega arith) c.none-sums.ensures
@@ -44,7 +44,7 @@ pub tally_of-tally-requires : goal.tally_of-tally-requires
 tally_of-tally-requires c = (c.requires.0, omega (arith, c.loop-at.invariant.room))
 
 -- few records lie before the place
-few : (c : After-words-1) → c.loop-at.records < 1_048_576
+few : (c : In-loop-at) → c.loop-at.records < 1_048_576
 few c = counted-few _ _ c.loop-at.invariant c.requires.1 c.loop-at-test.true
 
 -- what the record adds
@@ -53,14 +53,14 @@ tally c = c.tally_of-tally.ensures ∙ ap (λ (x : List ℕ). tally_of x c.args.
 
 pub count_number-requires : goal.count_number-requires
 count_number-requires c =
-    (rw c.tally_of-tally.ensures (tally-sized _ c.requires.0 _).0, λ k. omega (arith, counted-most _ _ c.loop-at.invariant c.requires.0 k, few (goal.at.count_number-requires c).After-words-1))
+    (rw c.tally_of-tally.ensures (tally-sized _ c.requires.0 _).0, λ k. omega (arith, counted-most _ _ c.loop-at.invariant c.requires.0 k, few (goal.at.count_number-requires c).In-loop-at))
 
 pub plus-more-requires : goal.plus-more-requires
 plus-more-requires c =
-    (c.loop-at.records, few (goal.at.plus-more-requires c).After-words-1, counted-sized _ _ c.loop-at.invariant c.requires.0, rw c.tally_of-tally.ensures (tally-sized _ c.requires.0 _).1)
+    (c.loop-at.records, few (goal.at.plus-more-requires c).In-loop-at, counted-sized _ _ c.loop-at.invariant c.requires.0, rw c.tally_of-tally.ensures (tally-sized _ c.requires.0 _).1)
 
 pub overflow_add-records : goal.overflow_add-records
-overflow_add-records c = omega (arith, few (goal.at.overflow_add-records c).After-words-1)
+overflow_add-records c = omega (arith, few (goal.at.overflow_add-records c).In-loop-at)
 
 pub overflow_add-at : goal.overflow_add-at
 overflow_add-at c = omega (arith, inside (goal.at.overflow_add-at c).In-Read, c.requires.1)

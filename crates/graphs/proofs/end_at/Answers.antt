@@ -4,7 +4,7 @@ use mathlib.Core.Bool.{false}
 use lib.Dec.{ltb}
 use lib.ListN.{length}
 use native.Mathlib.Omega.{arith}
-use borrow.Author.Tests.{eq-eqb, ne_eqb, ltb-true}
+use borrow.Author.Tests.{eq-eqb, ne_eqb}
 use Rattle.graphs.specs.Expected.Next.{done}
 use Rattle.graphs.specs.Graph.{no_graph, unless_all_zero}
 use Rattle.graphs.specs.Inner.Taken.{reading_at}
@@ -14,7 +14,7 @@ use Rattle.graphs.proofs.end_at.Goals.{Joined-commented, then-commented+else-tex
 
 pub returns-then-text-place-ne-HASH : goal.returns-then-text-place-ne-HASH
 returns-then-text-place-ne-HASH c = c.no_graph.ensures ∙ ap (no_graph false) c.of.ensures
-    ∙ sym (ends-other _ _ _ c.word_at-place.ensures _ (ltb-true _ _ c.if-commented.true-raw) (ne_eqb _ _ c.if-text-place-ne-HASH.true))
+    ∙ sym (ends-other _ _ _ c.word_at-place.ensures _ c.if-commented.true (ne_eqb _ _ c.if-text-place-ne-HASH.true))
 
 -- the reading has ended, by a comment or with the text
 ended : (c : Joined-commented) → (let a = c.args in

@@ -4,7 +4,6 @@ use mathlib.Core.Path.{◌≡◌, sym, ap, subst, ◌∙◌}
 use mathlib.Core.Bool.{false}
 use native.Mathlib.Omega.{arith}
 use lib.ListN.{length}
-use borrow.Author.Tests.{not-true, not-false}
 use Rattle.plain.specs.At.{at}
 use Rattle.graphwords.specs.declared.Found.{Found}
 use Rattle.graphwords.specs.Words.{is_parting, words_at}
@@ -36,18 +35,18 @@ returns-then-is_parting c = there (goal.at.returns-then-is_parting c).At-loop-en
 
 pub returns-then-not-is_digit : goal.returns-then-not-is_digit
 returns-then-not-is_digit c = there (goal.at.returns-then-not-is_digit c).At-loop-end _ (along-other _ _ _ _ c.loop-end.invariant.1 c.loop-end-test.true (sym c.is_parting.ensures ∙ c.if-is_parting.false)
-    (sym c.is_digit.ensures ∙ not-true _ c.if-not-is_digit.true-raw) (begins (goal.at.returns-then-not-is_digit c).At-loop-end))
+    (sym c.is_digit.ensures ∙ c.if-not-is_digit.true) (begins (goal.at.returns-then-not-is_digit c).At-loop-end))
 
 pub with_digit-value-requires : goal.with_digit-value-requires
 with_digit-value-requires c = let l = c.loop-end in
-    (along-most _ _ _ _ l.invariant.1, sym c.is_digit.ensures ∙ not-false _ c.if-not-is_digit.false-raw)
+    (along-most _ _ _ _ l.invariant.1, sym c.is_digit.ensures ∙ c.if-not-is_digit.false)
 
 pub loop-end-preserved : goal.loop-end-preserved
 loop-end-preserved c = (
   omega arith,
   subst (Along _ _ _) (sym c.with_digit-value.ensures)
       (along-more _ _ _ _ c.loop-end.invariant.1 c.loop-end-test.true (sym c.is_parting.ensures ∙ c.if-is_parting.false)
-      (sym c.is_digit.ensures ∙ not-false _ c.if-not-is_digit.false-raw)),
+      (sym c.is_digit.ensures ∙ c.if-not-is_digit.false)),
 )
 
 pub returns : goal.returns

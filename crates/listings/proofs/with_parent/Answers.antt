@@ -11,6 +11,7 @@ use Rattle.listings.specs.declared.Listing.{Listing}
 use Rattle.listings.specs.Lists.{is_listed}
 use Rattle.listings.specs.Inner.Listing.{listing_of}
 use Rattle.listings.proofs.Lists.{member-listed, met-again, met-new}
+use borrow.Author.Tests.{lt-ltb, le-ltb}
 use Rattle.listings.proofs.with_parent.Goals as goal
 use Rattle.listings.proofs.with_parent.Goals.{After-is_member, After-with_member}
 
@@ -41,7 +42,7 @@ new c given b e q = let a = c.args in
     ∙ sym (met-new given a.parent a.padded (tested (goal.at-After-with_member c).After-is_member given false e c.if-is_member.false) c.requires.0)
 
 pub returns-then-below : goal.returns-then-below
-returns-then-below c given e = new (goal.at.returns-then-below c).After-with_member given true e c.if-below.true-raw
+returns-then-below c given e = new (goal.at.returns-then-below c).After-with_member given true e (lt-ltb _ _ c.if-below.true)
 
 pub returns-else-below : goal.returns-else-below
-returns-else-below c given e = new (goal.at.returns-else-below c).After-with_member given false e c.if-below.false-raw
+returns-else-below c given e = new (goal.at.returns-else-below c).After-with_member given false e (le-ltb _ _ c.if-below.false)

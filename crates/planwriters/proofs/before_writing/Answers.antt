@@ -29,20 +29,20 @@ returns-then-words-lt-WORDS_MAX c = pick_yes _ (lt-ltb _ _ c.if-words-lt-WORDS_M
 
 pub returns-then-not-is_count : goal.returns-then-not-is_count
 unfolding before_writing
-returns-then-not-is_count c = pick_no _ (le-ltb _ _ c.if-words-lt-WORDS_MAX.false) (pick_no _ (failed c.is_count.ensures c.if-not-is_count.true-raw) (ap Refused c.of-then-not-is_count.ensures))
+returns-then-not-is_count c = pick_no _ (le-ltb _ _ c.if-words-lt-WORDS_MAX.false) (pick_no _ (failed c.is_count.ensures c.if-not-is_count.true) (ap Refused c.of-then-not-is_count.ensures))
 
 pub returns-then-not-is_count-2 : goal.returns-then-not-is_count-2
 unfolding before_writing
-returns-then-not-is_count-2 c = pick_no _ (le-ltb _ _ c.if-words-lt-WORDS_MAX.false) (pick_yes _ (passed c.is_count.ensures c.if-not-is_count.false-raw)
-    (pick_no _ (failed c.is_count-2.ensures c.if-not-is_count-2.true-raw) (ap Refused c.of-then-not-is_count-2.ensures)))
+returns-then-not-is_count-2 c = pick_no _ (le-ltb _ _ c.if-words-lt-WORDS_MAX.false) (pick_yes _ (passed c.is_count.ensures c.if-not-is_count.false)
+    (pick_no _ (failed c.is_count-2.ensures c.if-not-is_count-2.true) (ap Refused c.of-then-not-is_count-2.ensures)))
 
 abbrev lent : Else-not-is_count-2 → List ℕ
 lent c = c.args.words.now
 
 counted : (c : Else-not-is_count-2) → Counted (lent c)
 counted c =
-    let segments = between-true _ _ _ (passed c.is_count.ensures c.if-not-is_count.false-raw) in
-    let nodes = between-true _ _ _ (passed c.is_count-2.ensures c.if-not-is_count-2.false-raw) in
+    let segments = between-true _ _ _ (passed c.is_count.ensures c.if-not-is_count.false) in
+    let nodes = between-true _ _ _ (passed c.is_count-2.ensures c.if-not-is_count-2.false) in
     record { enough = c.if-words-lt-WORDS_MAX.false; segments-low = segments.0; segments-high = segments.1; nodes-low = nodes.0; nodes-high = nodes.1 }
 
 whole : (c : Else-not-is_count-2) → Whole (lent c)
@@ -51,8 +51,8 @@ whole c = counted-whole (counted c)
 -- then the rules after them decide
 later : (c : Else-not-is_count-2) {o : Outcome} → o ≡ after_counts (lent c) c.args.room c.args.id → o ≡ before_writing (lent c) c.args.room c.args.id
 unfolding before_writing
-later c e = pick_no _ (le-ltb _ _ c.if-words-lt-WORDS_MAX.false) (pick_yes _ (passed c.is_count.ensures c.if-not-is_count.false-raw)
-    (pick_yes _ (passed c.is_count-2.ensures c.if-not-is_count-2.false-raw) e))
+later c e = pick_no _ (le-ltb _ _ c.if-words-lt-WORDS_MAX.false) (pick_yes _ (passed c.is_count.ensures c.if-not-is_count.false)
+    (pick_yes _ (passed c.is_count-2.ensures c.if-not-is_count-2.false) e))
 
 pub overflow_mul-written : goal.overflow_mul-written
 overflow_mul-written c = omega (arith, (counted (goal.at.overflow_mul-written c).Else-not-is_count-2).segments-high)
@@ -70,10 +70,10 @@ pub slice_bounds-written-end : goal.slice_bounds-written-end
 slice_bounds-written-end c = sym (length-take-le _ _ (whole (goal.at.slice_bounds-written-end c).Else-not-is_count-2))
 
 pub returns-then-id-ge-VALUE_LIMIT : goal.returns-then-id-ge-VALUE_LIMIT
-returns-then-id-ge-VALUE_LIMIT c = later (goal.at.returns-then-id-ge-VALUE_LIMIT c).Else-not-is_count-2 (pick_no _ (big-number (lent (goal.at.returns-then-id-ge-VALUE_LIMIT c).Else-not-is_count-2) (whole (goal.at.returns-then-id-ge-VALUE_LIMIT c).Else-not-is_count-2) _ (elim c.then-id-ge-VALUE_LIMIT.branch [ then-id-ge-VALUE_LIMIT-via-then-id-ge-VALUE_LIMIT w ↦ inl w.if-id-ge-VALUE_LIMIT.true | then-id-ge-VALUE_LIMIT-via-else-id-ge-VALUE_LIMIT+then-not-are_small w ↦ inr (failed w.are_small.ensures w.if-not-are_small.true-raw) ])) (ap Refused c.of-then-id-ge-VALUE_LIMIT.ensures))
+returns-then-id-ge-VALUE_LIMIT c = later (goal.at.returns-then-id-ge-VALUE_LIMIT c).Else-not-is_count-2 (pick_no _ (big-number (lent (goal.at.returns-then-id-ge-VALUE_LIMIT c).Else-not-is_count-2) (whole (goal.at.returns-then-id-ge-VALUE_LIMIT c).Else-not-is_count-2) _ (elim c.then-id-ge-VALUE_LIMIT.branch [ then-id-ge-VALUE_LIMIT-via-then-id-ge-VALUE_LIMIT w ↦ inl w.if-id-ge-VALUE_LIMIT.true | then-id-ge-VALUE_LIMIT-via-else-id-ge-VALUE_LIMIT+then-not-are_small w ↦ inr (failed w.are_small.ensures w.if-not-are_small.true) ])) (ap Refused c.of-then-id-ge-VALUE_LIMIT.ensures))
 
 small-words : (c : Else-not-are_small) → (let words = lent (goal.at.Else-not-are_small c).Else-not-is_count-2 in Small (take (count_of words) words))
-small-words c = small-values _ (passed c.are_small.ensures c.if-not-are_small.false-raw)
+small-words c = small-values _ (passed c.are_small.ensures c.if-not-are_small.false)
 
 -- the rule of the room decides,
 last : (c : Else-not-are_small) {o : Outcome} → (let a = c.args in

@@ -32,10 +32,10 @@ told : (c : After-is_half) → (let a = c.args in c.is_half.result ≡ passes a.
 told c = rw c.node_word.ensures at c.is_half.ensures
 
 pub returns-then-not-is_half : goal.returns-then-not-is_half
-returns-then-not-is_half c = tried-fails c.loop-v.invariant (here (goal.at.returns-then-not-is_half c).In-loop-v) (failed (told (goal.at.returns-then-not-is_half c).After-is_half) c.if-not-is_half.true-raw)
+returns-then-not-is_half c = tried-fails c.loop-v.invariant (here (goal.at.returns-then-not-is_half c).In-loop-v) (failed (told (goal.at.returns-then-not-is_half c).After-is_half) c.if-not-is_half.true)
 
 pub loop-v-preserved : goal.loop-v-preserved
-loop-v-preserved c = tried-more c.loop-v.invariant (here (goal.at.loop-v-preserved c).In-loop-v) (passed (told (goal.at.loop-v-preserved c).After-is_half) c.if-not-is_half.false-raw)
+loop-v-preserved c = tried-more c.loop-v.invariant (here (goal.at.loop-v-preserved c).In-loop-v) (passed (told (goal.at.loop-v-preserved c).After-is_half) c.if-not-is_half.false)
 
 pub returns : goal.returns
 returns c = tried-all c.loop-v.invariant c.loop-v-test.false

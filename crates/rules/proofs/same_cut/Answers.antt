@@ -26,11 +26,11 @@ same_segment-requires c =
 
 pub returns-then-not-same_segment : goal.returns-then-not-same_segment
 returns-then-not-same_segment c =
-    pick_yes _ (eq-eqb _ _ c.if-plan-own.false) (tried-fails c.loop-j.invariant (here (goal.at.returns-then-not-same_segment c).In-loop-j) (failed c.same_segment.ensures c.if-not-same_segment.true-raw))
+    pick_yes _ (eq-eqb _ _ c.if-plan-own.false) (tried-fails c.loop-j.invariant (here (goal.at.returns-then-not-same_segment c).In-loop-j) (failed c.same_segment.ensures c.if-not-same_segment.true))
 
 pub loop-j-preserved : goal.loop-j-preserved
 loop-j-preserved c =
-    tried-more c.loop-j.invariant (here (goal.at.loop-j-preserved c).In-loop-j) (passed c.same_segment.ensures c.if-not-same_segment.false-raw)
+    tried-more c.loop-j.invariant (here (goal.at.loop-j-preserved c).In-loop-j) (passed c.same_segment.ensures c.if-not-same_segment.false)
 
 pub returns : goal.returns
 returns c = pick_yes _ (eq-eqb _ _ c.if-plan-own.false) (tried-all c.loop-j.invariant c.loop-j-test.false)

@@ -49,10 +49,10 @@ told c =
     rw (c.segment_word.ensures, c.segment_word-in-loop-j.ensures, c.segment_word-in-loop-j-2.ensures, regrouped) at c.is_thin.ensures
 
 pub returns-then-not-is_thin : goal.returns-then-not-is_thin
-returns-then-not-is_thin c = tried-fails c.loop-j.invariant (here (goal.at.returns-then-not-is_thin c).In-loop-j) (failed (told (goal.at.returns-then-not-is_thin c).After-is_thin) c.if-not-is_thin.true-raw)
+returns-then-not-is_thin c = tried-fails c.loop-j.invariant (here (goal.at.returns-then-not-is_thin c).In-loop-j) (failed (told (goal.at.returns-then-not-is_thin c).After-is_thin) c.if-not-is_thin.true)
 
 pub loop-j-preserved : goal.loop-j-preserved
-loop-j-preserved c = tried-more c.loop-j.invariant (here (goal.at.loop-j-preserved c).In-loop-j) (passed (told (goal.at.loop-j-preserved c).After-is_thin) c.if-not-is_thin.false-raw)
+loop-j-preserved c = tried-more c.loop-j.invariant (here (goal.at.loop-j-preserved c).In-loop-j) (passed (told (goal.at.loop-j-preserved c).After-is_thin) c.if-not-is_thin.false)
 
 pub returns : goal.returns
 returns c = tried-all c.loop-j.invariant c.loop-j-test.false

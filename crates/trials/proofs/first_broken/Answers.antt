@@ -14,21 +14,21 @@ over_fits-requires c = c.requires.plan-in
 
 pub returns-then-not-over_fits : goal.returns-then-not-over_fits
 unfolding first_failed first_broken
-returns-then-not-over_fits c = pick_no _ (failed c.over_fits.ensures c.if-not-over_fits.true-raw) refl
+returns-then-not-over_fits c = pick_no _ (failed c.over_fits.ensures c.if-not-over_fits.true) refl
 
 pub same_cut-requires : goal.same_cut-requires
 same_cut-requires c = let pre = c.requires in (pre.own_in, pre.plan-in)
 
 -- the rules that are passed hold
 held1 : (c : Else-not-over_fits) → over_fits c.args.plan.now ≡ true
-held1 c = passed c.over_fits.ensures c.if-not-over_fits.false-raw
+held1 c = passed c.over_fits.ensures c.if-not-over_fits.false
 
 pub returns-then-not-same_cut : goal.returns-then-not-same_cut
 unfolding first_failed first_broken
-returns-then-not-same_cut c = pick_yes _ (held1 (goal.at.returns-then-not-same_cut c).Else-not-over_fits) (pick_no _ (failed c.same_cut.ensures c.if-not-same_cut.true-raw) refl)
+returns-then-not-same_cut c = pick_yes _ (held1 (goal.at.returns-then-not-same_cut c).Else-not-over_fits) (pick_no _ (failed c.same_cut.ensures c.if-not-same_cut.true) refl)
 
 held2 : (c : Else-not-same_cut) → (let a = c.args in same_cut (held_by a.own.now [] [] 0 0) a.plan.now ≡ true)
-held2 c = passed c.same_cut.ensures c.if-not-same_cut.false-raw
+held2 c = passed c.same_cut.ensures c.if-not-same_cut.false
 
 pub shared_out-requires : goal.shared_out-requires
 shared_out-requires c =
@@ -40,10 +40,10 @@ unfolding first_failed first_broken
 returns-then-not-shared_out c =
     pick_yes _ (held1 (goal.at.returns-then-not-shared_out c).Else-not-over_fits)
     (pick_yes _ (held2 (goal.at.returns-then-not-shared_out c).Else-not-same_cut)
-    (pick_no _ (failed c.shared_out.ensures c.if-not-shared_out.true-raw) refl))
+    (pick_no _ (failed c.shared_out.ensures c.if-not-shared_out.true) refl))
 
 held3 : (c : Else-not-shared_out) → (let a = c.args in shared_out (held_by [] [] [] a.period 0) a.plan.now ≡ true)
-held3 c = passed c.shared_out.ensures c.if-not-shared_out.false-raw
+held3 c = passed c.shared_out.ensures c.if-not-shared_out.false
 
 pub later_broken-requires : goal.later_broken-requires
 later_broken-requires c =

@@ -1,7 +1,7 @@
 -- `boards::changes::before_asking` meets its contract: it asks the definition's tests in their order.
 use mathlib.Core.Path.{◌≡◌, refl, ap}
 use mathlib.Core.Bool.{true}
-use borrow.Author.Tests.{eq-eqb, ne_eqb, lt-ltb, le-ltb, not-true, not-false}
+use borrow.Author.Tests.{eq-eqb, ne_eqb, lt-ltb, le-ltb}
 use Rattle.refusals.specs.declared.Outcome.TheVariants.{Refused}
 use Rattle.boards.specs.Change.{before_asking}
 use Rattle.plain.proofs.Tests.{pick_yes, pick_no}
@@ -10,11 +10,11 @@ use Rattle.boards.proofs.changes.before_asking.Goals.{Else-not-sound}
 
 pub returns-then-not-sound : goal.returns-then-not-sound
 unfolding before_asking
-returns-then-not-sound c = pick_no _ (not-true c.args.sound c.if-not-sound.true-raw) (ap Refused c.of.ensures)
+returns-then-not-sound c = pick_no _ c.if-not-sound.true (ap Refused c.of.ensures)
 
 -- past the first test
 sound : (c : Else-not-sound) → c.args.sound ≡ true
-sound c = not-false c.args.sound c.if-not-sound.false-raw
+sound c = c.if-not-sound.false
 
 pub returns-then-cores-eq0 : goal.returns-then-cores-eq0
 unfolding before_asking

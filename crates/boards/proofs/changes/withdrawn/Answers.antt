@@ -21,18 +21,18 @@ pub returns-then-not-sound : goal.returns-then-not-sound
 unfolding withdrawn
 returns-then-not-sound c =
     let left = rw c.unsound.ensures at c.unchanged.ensures in
-    (pick_no _ (failed (sound-so (goal.at.returns-then-not-sound c).Joined-densities_sound) c.if-not-sound.true-raw) left, rw left (lit< tt))
+    (pick_no _ (failed (sound-so (goal.at.returns-then-not-sound c).Joined-densities_sound) c.if-not-sound.true) left, rw left (lit< tt))
 
 pub returns-then-id-eq0 : goal.returns-then-id-eq0
 unfolding withdrawn
 returns-then-id-eq0 c =
     let left = rw c.refused_by.ensures at c.unchanged-then-id-eq0.ensures in
-    (pick_yes _ (passed (sound-so (goal.at.returns-then-id-eq0 c).Joined-densities_sound) c.if-not-sound.false-raw) (pick_yes _ (eq-eqb _ _ c.if-id-eq0.true) left), rw left (lit< tt))
+    (pick_yes _ (passed (sound-so (goal.at.returns-then-id-eq0 c).Joined-densities_sound) c.if-not-sound.false) (pick_yes _ (eq-eqb _ _ c.if-id-eq0.true) left), rw left (lit< tt))
 
 pub returns-then-at-lt-ROWS : goal.returns-then-at-lt-ROWS
 unfolding withdrawn
 returns-then-at-lt-ROWS c = (
-  pick_yes _ (passed (sound-so (goal.at.returns-then-at-lt-ROWS c).Joined-densities_sound) c.if-not-sound.false-raw)
+  pick_yes _ (passed (sound-so (goal.at.returns-then-at-lt-ROWS c).Joined-densities_sound) c.if-not-sound.false)
       (pick_no _ (ne_eqb _ _ c.if-id-eq0.false)
       (pick_yes _ (lt-ltb _ _ (rw c.place_of-at.ensures at c.if-at-lt-ROWS.true))
       (rw (c.accepted.ensures, c.free.ensures, c.place_of-at.ensures)))),
@@ -43,7 +43,7 @@ pub returns-else-at-lt-ROWS : goal.returns-else-at-lt-ROWS
 unfolding withdrawn
 returns-else-at-lt-ROWS c =
     let left = rw c.refused_by-else-at-lt-ROWS.ensures at c.unchanged-else-at-lt-ROWS.ensures in (
-      pick_yes _ (passed (sound-so (goal.at.returns-else-at-lt-ROWS c).Joined-densities_sound) c.if-not-sound.false-raw)
+      pick_yes _ (passed (sound-so (goal.at.returns-else-at-lt-ROWS c).Joined-densities_sound) c.if-not-sound.false)
           (pick_no _ (ne_eqb _ _ c.if-id-eq0.false)
           (pick_no _ (le-ltb _ _ (rw c.place_of-at.ensures at c.if-at-lt-ROWS.false)) left)),
       rw left (lit< tt),

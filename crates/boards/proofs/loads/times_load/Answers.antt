@@ -17,7 +17,7 @@ loop-k-init c = (omega arith, all_to-none _, sym (sum_to-none _), sym (max_to-no
 
 pub returns-then-not-times_fit : goal.returns-then-not-times_fit
 returns-then-not-times_fit c =
-    let fails = all_to-false rows_max (passes c.args.board.rows) c.loop-k.k (omega arith) (failed c.times_fit.ensures c.if-not-times_fit.true-raw) in
+    let fails = all_to-false rows_max (passes c.args.board.rows) c.loop-k.k (omega arith) (failed c.times_fit.ensures c.if-not-times_fit.true) in
     (c.unsound.ensures ∙ sym fails, λ e. absurd (true-false e c.unsound.ensures))
 
 -- so far at most sixteen of the greatest sums
@@ -32,7 +32,7 @@ loop-k-preserved c =
     let sum = sum_to-more c.loop-k.k (λ i. (row_at rows i).sum) in
     let largest = max_to-more c.loop-k.k (λ i. (row_at rows i).largest) in (
       omega arith,
-      rw (all_to-more c.loop-k.k (passes rows)) (true-both c.loop-k.invariant.1 (passed c.times_fit.ensures c.if-not-times_fit.false-raw)),
+      rw (all_to-more c.loop-k.k (passes rows)) (true-both c.loop-k.invariant.1 (passed c.times_fit.ensures c.if-not-times_fit.false)),
       omega arith,
       elim c.if-largest-row.branch [ then-largest-row w ↦ omega arith | else-largest-row w ↦ omega arith ],
     )

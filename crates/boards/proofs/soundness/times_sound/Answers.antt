@@ -11,11 +11,11 @@ loop-k-init c = (omega arith, all_to-none _)
 
 pub returns-then-not-times_fit : goal.returns-then-not-times_fit
 returns-then-not-times_fit c =
-    sym (all_to-false rows_max (passes c.args.board.rows) c.loop-k.k (omega arith) (failed c.times_fit.ensures c.if-not-times_fit.true-raw))
+    sym (all_to-false rows_max (passes c.args.board.rows) c.loop-k.k (omega arith) (failed c.times_fit.ensures c.if-not-times_fit.true))
 
 pub loop-k-preserved : goal.loop-k-preserved
 loop-k-preserved c =
-    (omega arith, rw (all_to-more c.loop-k.k (passes c.args.board.rows)) (true-both c.loop-k.invariant.1 (passed c.times_fit.ensures c.if-not-times_fit.false-raw)))
+    (omega arith, rw (all_to-more c.loop-k.k (passes c.args.board.rows)) (true-both c.loop-k.invariant.1 (passed c.times_fit.ensures c.if-not-times_fit.false)))
 
 pub returns : goal.returns
 returns c =
