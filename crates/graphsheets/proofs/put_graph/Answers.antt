@@ -1,8 +1,6 @@
 -- `graphsheets::put_graph` meets its contract: its tests are the sheet's own, in their order, and a table that was read is in range.
 use mathlib.Core.Path.{◌≡◌, sym, ap, ◌∙◌}
 use mathlib.Core.Bool.{false}
-use mathlib.Core.List.{List}
-use Prim.Native.Nat.{ℕ}
 use borrow.Author.Tests.{not-true, not-false}
 use Rattle.refusals.specs.declared.Outcome.TheVariants.{Accepted}
 use Rattle.tables.specs.Cost.{costed}
@@ -16,20 +14,16 @@ use Rattle.graphsheets.proofs.Sheets.{sheet-cut, whole-short, whole-commented, s
 use Rattle.graphsheets.proofs.put_graph.Goals as goal
 use Rattle.graphsheets.proofs.put_graph.Goals.{After-read_text-graph, In_default, Joined-else-text-gt-TEXT_MAX, else-text-gt-TEXT_MAX-via-then-text-gt-TEXT_MAX+else-not-graph, else-text-gt-TEXT_MAX-via-else-text-gt-TEXT_MAX}
 
--- the text, and the graph that was read of it
-abbrev text : (c : After-read_text-graph) → List ℕ
-text c = c.args.text.now
-
-graph : (c : After-read_text-graph) → graph_in (text c) ≡ c.read_text-graph.result
+graph : (c : After-read_text-graph) → graph_in c.args.text.now ≡ c.read_text-graph.result
 graph c = sym c.read_text-graph.ensures
 
 pub returns-then-not-graph : goal.returns-then-not-graph
 returns-then-not-graph c =
     let no-comment = ap (λ (x : Graph). x.commented) (graph (goal.at.returns-then-not-graph c).After-read_text-graph) ∙ not-true _ c.if-not-graph.true in
-    wrote-same (ap refused_line c.of.ensures ∙ sym (sheet-cut (text (goal.at.returns-then-not-graph c).After-read_text-graph) c.if-text-gt-TEXT_MAX.true no-comment)) c.put_refusal.ensures
+    wrote-same (ap refused_line c.of.ensures ∙ sym (sheet-cut c.args.text.now c.if-text-gt-TEXT_MAX.true no-comment)) c.put_refusal.ensures
 
 -- past the first test nothing is cut off
-whole : (c : Joined-else-text-gt-TEXT_MAX) → cut_off (text (goal.at-Joined-else-text-gt-TEXT_MAX c).After-read_text-graph) ≡ false
+whole : (c : Joined-else-text-gt-TEXT_MAX) → cut_off c.args.text.now ≡ false
 whole c =
     let told = graph (goal.at-Joined-else-text-gt-TEXT_MAX c).After-read_text-graph in elim c.else-text-gt-TEXT_MAX.branch [
       | else-text-gt-TEXT_MAX-via-then-text-gt-TEXT_MAX+else-not-graph w ↦ whole-commented c.args.text.now (ap (λ (x : Graph). x.commented) told ∙ not-false _ w.if-not-graph.false)
@@ -39,17 +33,17 @@ whole c =
 pub returns-in-Refused : goal.returns-in-Refused
 returns-in-Refused c =
     let refused = ap (λ (x : Graph). x.outcome) (graph (goal.at.returns-in-Refused c).After-read_text-graph) ∙ c.in-Refused.is in
-    wrote-same (sym (sheet-refused (text (goal.at.returns-in-Refused c).After-read_text-graph) (whole (goal.at.returns-in-Refused c).Joined-else-text-gt-TEXT_MAX) refused)) c.put_refusal-in-Refused.ensures
+    wrote-same (sym (sheet-refused c.args.text.now (whole (goal.at.returns-in-Refused c).Joined-else-text-gt-TEXT_MAX) refused)) c.put_refusal-in-Refused.ensures
 
 -- past the second it was read
-read : (c : In_default) → (graph_in (text (goal.at-In_default c).After-read_text-graph)).outcome ≡ Accepted
+read : (c : In_default) → (graph_in c.args.text.now).outcome ≡ Accepted
 read c = ap (λ (x : Graph). x.outcome) (graph (goal.at-In_default c).After-read_text-graph) ∙ c.in_default.is
 
 pub put_relaxed-requires : goal.put_relaxed-requires
 put_relaxed-requires c =
-    rw c.read_text-graph.ensures (c.requires, read-range (text (goal.at.put_relaxed-requires c).After-read_text-graph) (read (goal.at.put_relaxed-requires c).In_default), read-period (text (goal.at.put_relaxed-requires c).After-read_text-graph) (read (goal.at.put_relaxed-requires c).In_default))
+    rw c.read_text-graph.ensures (c.requires, read-range c.args.text.now (read (goal.at.put_relaxed-requires c).In_default), read-period c.args.text.now (read (goal.at.put_relaxed-requires c).In_default))
 
 pub returns : goal.returns
 returns c =
     let sheet = ap (λ (x : Graph). on_table refused_line table_sheet (costed (relaxed x.table) sheet_cost)) c.read_text-graph.ensures in
-    wrote-same (sheet ∙ sym (sheet-read (text (goal.at.returns c).After-read_text-graph) (whole (goal.at.returns c).Joined-else-text-gt-TEXT_MAX) (read (goal.at.returns c).In_default))) c.put_relaxed.ensures
+    wrote-same (sheet ∙ sym (sheet-read c.args.text.now (whole (goal.at.returns c).Joined-else-text-gt-TEXT_MAX) (read (goal.at.returns c).In_default))) c.put_relaxed.ensures

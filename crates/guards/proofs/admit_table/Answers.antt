@@ -37,22 +37,16 @@ use Rattle.admissions.proofs.Tests.{goes_in, table-out, table-in}
 use Rattle.guards.proofs.admit_table.Goals as goal
 use Rattle.guards.proofs.admit_table.Goals.{After-guard-answer, After-row_of-row, After-told_place-place, Else-planned-ne0, Start}
 
-abbrev table : (c : Start) → TaskTable
-table s = costed s.args.table s.args.cost
-
-abbrev rows : (c : Start) → List Row
-rows s = s.args.board.rows
+-- the board with a task's row
+abbrev next : List Row → TaskTable → List Row
+next rows t = set rows (free_at rows) (row_of t)
 
 -- the words beside, before the plan
 abbrev zeros : List ℕ
 zeros = replicate words_max 0
 
--- what is done with a task that has a plan
-abbrev enter : (c : Start) → TaskTable → Admission
-enter s = guarded_entry (rows s) s.args.words.now s.args.cores
-
 -- the answer by the two places
-found : (c : After-told_place-place) → (c.told_place-place.result ≡ told_place (place_of (table (goal.at-After-told_place-place c).Start).id (rows (goal.at-After-told_place-place c).Start)) (free_at (rows (goal.at-After-told_place-place c).Start)))
+found : (c : After-told_place-place) → (c.told_place-place.result ≡ told_place (place_of (costed c.args.table c.args.cost).id c.args.board.rows) (free_at c.args.board.rows))
 found c = rw (c.place_of.ensures, c.place_of-free.ensures) at c.told_place-place.ensures
 
 pub plan_table-planning-requires : goal.plan_table-planning-requires
@@ -61,54 +55,50 @@ plan_table-planning-requires c = (c.requires.plannable.0, omega arith)
 pub returns-then-planned-ne0 : goal.returns-then-planned-ne0
 returns-then-planned-ne0 c =
     let words = c.args.words.now in
-    let (e, _) = table-out (rows (goal.at.returns-then-planned-ne0 c).Start) words zeros (table (goal.at.returns-then-planned-ne0 c).Start) c.told_place-place.result c.plan_table-planning.ensures.words_after (enter (goal.at.returns-then-planned-ne0 c).Start) (guard_out (rows (goal.at.returns-then-planned-ne0 c).Start) words c.args.cores (table (goal.at.returns-then-planned-ne0 c).Start) (found (goal.at.returns-then-planned-ne0 c).After-told_place-place)) c.if-planned-ne0.true in
+    let (e, _) = table-out c.args.board.rows words zeros (costed c.args.table c.args.cost) c.told_place-place.result c.plan_table-planning.ensures.words_after (guarded_entry c.args.board.rows c.args.words.now c.args.cores) (guard_out c.args.board.rows words c.args.cores (costed c.args.table c.args.cost) (found (goal.at.returns-then-planned-ne0 c).After-told_place-place)) c.if-planned-ne0.true in
     (c.unchanged.ensures ∙ sym (ap (λ (x : Admission). x.change) e), rw c.unchanged.ensures (omega arith), sym (ap (λ (x : Admission). x.words) e))
 
 -- the table has a plan, and its figures are told
-totals : (c : Else-planned-ne0) → Totalled (table (goal.at-Else-planned-ne0 c).Start) c.plan_table-planning.result
+totals : (c : Else-planned-ne0) → Totalled (costed c.args.table c.args.cost) c.plan_table-planning.result
 totals c = c.plan_table-planning.ensures.totalled c.if-planned-ne0.false
 
 -- so its words are written, and the guard decides
-enters : (c : Else-planned-ne0) → (let t = table (goal.at-Else-planned-ne0 c).Start in let p = c.plan_table-planning in
+enters : (c : Else-planned-ne0) → (let t = costed c.args.table c.args.cost in let p = c.plan_table-planning in
     (c.told_place-place.result.refusal ≡ 0) × (p.result.answer ≡ accepted (word_count (segment_count t) t.count)) × (p.new.words ≡ written t zeros)
-    × (on_table (not_admitted (rows (goal.at-Else-planned-ne0 c).Start) c.args.words.now) (enter (goal.at-Else-planned-ne0 c).Start) t ≡ enter (goal.at-Else-planned-ne0 c).Start t))
+    × (on_table (not_admitted c.args.board.rows c.args.words.now) (guarded_entry c.args.board.rows c.args.words.now c.args.cores) t ≡ (guarded_entry c.args.board.rows c.args.words.now c.args.cores) t))
 enters c =
     let words = c.args.words.now in
-    table-in (rows (goal.at-Else-planned-ne0 c).Start) words zeros (table (goal.at-Else-planned-ne0 c).Start) c.told_place-place.result c.plan_table-planning.ensures.words_after (enter (goal.at-Else-planned-ne0 c).Start) (guard_out (rows (goal.at-Else-planned-ne0 c).Start) words c.args.cores (table (goal.at-Else-planned-ne0 c).Start) (found (goal.at-Else-planned-ne0 c).After-told_place-place)) c.if-planned-ne0.false (totals c).table
+    table-in c.args.board.rows words zeros (costed c.args.table c.args.cost) c.told_place-place.result c.plan_table-planning.ensures.words_after (guarded_entry c.args.board.rows c.args.words.now c.args.cores) (guard_out c.args.board.rows words c.args.cores (costed c.args.table c.args.cost) (found (goal.at-Else-planned-ne0 c).After-told_place-place)) c.if-planned-ne0.false (totals c).table
 
 -- how many words there are
-count : (c : Else-planned-ne0) → (let t = table (goal.at-Else-planned-ne0 c).Start in c.plan_table-planning.result.answer.value ≡ word_count (segment_count t) t.count)
+count : (c : Else-planned-ne0) → (let t = costed c.args.table c.args.cost in c.plan_table-planning.result.answer.value ≡ word_count (segment_count t) t.count)
 count c = ap (λ (a : Answer). a.value) (enters c).1
 
 -- the plan stands in the words beside
-plan-in : (c : Else-planned-ne0) → (let p = c.plan_table-planning in PlanIn (table (goal.at-Else-planned-ne0 c).Start) c.args.table.id c.args.table.count p.result p.new.words)
+plan-in : (c : Else-planned-ne0) → (let p = c.plan_table-planning in PlanIn (costed c.args.table c.args.cost) c.args.table.id c.args.table.count p.result p.new.words)
 plan-in c = record { totals = totals c; id = refl; count = refl; long = count c; old = zeros; room = omega arith; plan = (enters c).2 }
 
 pub row_of-row-requires : goal.row_of-row-requires
-row_of-row-requires c = (table (goal.at.row_of-row-requires c).Start, plan-in (goal.at.row_of-row-requires c).Else-planned-ne0)
+row_of-row-requires c = (costed c.args.table c.args.cost, plan-in (goal.at.row_of-row-requires c).Else-planned-ne0)
 
-row-so : (c : After-row_of-row) → c.row_of-row.result ≡ row_of (table (goal.at-After-row_of-row c).Start)
-row-so c = c.row_of-row.ensures (table (goal.at-After-row_of-row c).Start) (plan-in (goal.at-After-row_of-row c).Else-planned-ne0)
+row-so : (c : After-row_of-row) → c.row_of-row.result ≡ row_of (costed c.args.table c.args.cost)
+row-so c = c.row_of-row.ensures (costed c.args.table c.args.cost) (plan-in (goal.at-After-row_of-row c).Else-planned-ne0)
 
-low : (c : Else-planned-ne0) → free_at (rows (goal.at-Else-planned-ne0 c).Start) < rows_max
-low c = (goes_in (rows (goal.at-Else-planned-ne0 c).Start) c.args.words.now (table (goal.at-Else-planned-ne0 c).Start) (found (goal.at-Else-planned-ne0 c).After-told_place-place) (enters c).0).1
+low : (c : Else-planned-ne0) → free_at c.args.board.rows < rows_max
+low c = (goes_in c.args.board.rows c.args.words.now (costed c.args.table c.args.cost) (found (goal.at-Else-planned-ne0 c).After-told_place-place) (enters c).0).1
 
--- the board with it
-abbrev next : (c : Start) → List Row
-next s = set (rows s) (free_at (rows s)) (row_of (table s))
-
-next-sound : (c : Else-planned-ne0) → Sound (next (goal.at-Else-planned-ne0 c).Start)
+next-sound : (c : Else-planned-ne0) → Sound (next c.args.board.rows (costed c.args.table c.args.cost))
 next-sound c =
-    beside-sound (rows (goal.at-Else-planned-ne0 c).Start) c.args.words.now c.args.cores (table (goal.at-Else-planned-ne0 c).Start) (found (goal.at-Else-planned-ne0 c).After-told_place-place) (enters c).0 c.requires.sound.0 (totals c).table
+    beside-sound c.args.board.rows c.args.words.now c.args.cores (costed c.args.table c.args.cost) (found (goal.at-Else-planned-ne0 c).After-told_place-place) (enters c).0 c.requires.sound.0 (totals c).table
 
 -- S and M of that board
-sum-so : (c : After-row_of-row) → (c.args.load.sum + c.row_of-row.result.sum ≡ sum_of (next (goal.at-After-row_of-row c).Start))
+sum-so : (c : After-row_of-row) → (c.args.load.sum + c.row_of-row.result.sum ≡ sum_of (next c.args.board.rows (costed c.args.table c.args.cost)))
 sum-so c =
-    ap₂ (λ (x y : ℕ). x + y) c.requires.sound.1.0 (ap (λ (r : Row). r.sum) (row-so c)) ∙ sym (sum-beside c.requires.sound.0 (low (goal.at-After-row_of-row c).Else-planned-ne0) (row_of (table (goal.at-After-row_of-row c).Start)))
+    ap₂ (λ (x y : ℕ). x + y) c.requires.sound.1.0 (ap (λ (r : Row). r.sum) (row-so c)) ∙ sym (sum-beside c.requires.sound.0 (low (goal.at-After-row_of-row c).Else-planned-ne0) (row_of (costed c.args.table c.args.cost)))
 
-largest-so : (c : After-row_of-row) → (max c.args.load.largest c.row_of-row.result.largest ≡ largest_of (next (goal.at-After-row_of-row c).Start))
+largest-so : (c : After-row_of-row) → (max c.args.load.largest c.row_of-row.result.largest ≡ largest_of (next c.args.board.rows (costed c.args.table c.args.cost)))
 largest-so c =
-    ap₂ max c.requires.sound.1.1 (ap (λ (r : Row). r.largest) (row-so c)) ∙ sym (largest-beside c.requires.sound.0 (low (goal.at-After-row_of-row c).Else-planned-ne0) (row_of (table (goal.at-After-row_of-row c).Start)))
+    ap₂ max c.requires.sound.1.1 (ap (λ (r : Row). r.largest) (row-so c)) ∙ sym (largest-beside c.requires.sound.0 (low (goal.at-After-row_of-row c).Else-planned-ne0) (row_of (costed c.args.table c.args.cost)))
 
 pub loaded-next-requires : goal.loaded-next-requires
 loaded-next-requires c = omega (arith, sum-so (goal.at.loaded-next-requires c).After-row_of-row, sum_of-le (next-sound (goal.at.loaded-next-requires c).Else-planned-ne0))
@@ -122,7 +112,7 @@ guard-answer-requires c =
 
 -- so the guard's answer is the verdict's
 abbrev told : (s : Start) (place : Answer) → Answer
-told s place = pick (verdict (next s) s.args.cores) place (refused (refusal verdict_no 0))
+told s place = pick (verdict (next s.args.board.rows (costed s.args.table s.args.cost)) s.args.cores) place (refused (refusal verdict_no 0))
 
 answer-so : (c : After-guard-answer) → (c.guard-answer.result ≡ told (goal.at-After-guard-answer c).Start c.told_place-place.result)
 answer-so c =
@@ -141,8 +131,8 @@ pub returns-then-answer-ne0 : goal.returns-then-answer-ne0
 returns-then-answer-ne0 c =
     let answer = answer-so (goal.at.returns-then-answer-ne0 c).After-guard-answer in
     let n = c.if-answer-ne0.true in
-    let so = (enters (goal.at.returns-then-answer-ne0 c).Else-planned-ne0).3 ∙ turned-away (rows (goal.at.returns-then-answer-ne0 c).Start) c.args.words.now c.args.cores (table (goal.at.returns-then-answer-ne0 c).Start) (found (goal.at.returns-then-answer-ne0 c).After-told_place-place) (enters (goal.at.returns-then-answer-ne0 c).Else-planned-ne0).0 (λ z. n (ap (λ (a : Answer). a.refusal) answer ∙ z)) in (
-      c.unchanged-then-answer-ne0.ensures ∙ ap (unchanged (rows (goal.at.returns-then-answer-ne0 c).Start)) answer ∙ sym (ap (λ (x : Admission). x.change) so),
+    let so = (enters (goal.at.returns-then-answer-ne0 c).Else-planned-ne0).3 ∙ turned-away c.args.board.rows c.args.words.now c.args.cores (costed c.args.table c.args.cost) (found (goal.at.returns-then-answer-ne0 c).After-told_place-place) (enters (goal.at.returns-then-answer-ne0 c).Else-planned-ne0).0 (λ z. n (ap (λ (a : Answer). a.refusal) answer ∙ z)) in (
+      c.unchanged-then-answer-ne0.ensures ∙ ap (unchanged c.args.board.rows) answer ∙ sym (ap (λ (x : Admission). x.change) so),
       rw c.unchanged-then-answer-ne0.ensures (omega arith),
       c.copy_plan.ensures.words_unchanged n ∙ sym (ap (λ (x : Admission). x.words) so),
     )
@@ -152,13 +142,13 @@ returns c =
     let words = c.args.words.now in
     let answer = answer-so (goal.at.returns c).After-guard-answer in
     let z = c.if-answer-ne0.false in
-    let so = (enters (goal.at.returns c).Else-planned-ne0).3 ∙ kept_in (rows (goal.at.returns c).Start) words c.args.cores (table (goal.at.returns c).Start) (found (goal.at.returns c).After-told_place-place) (enters (goal.at.returns c).Else-planned-ne0).0 (sym (ap (λ (a : Answer). a.refusal) answer) ∙ z) in
+    let so = (enters (goal.at.returns c).Else-planned-ne0).3 ∙ kept_in c.args.board.rows words c.args.cores (costed c.args.table c.args.cost) (found (goal.at.returns c).After-told_place-place) (enters (goal.at.returns c).Else-planned-ne0).0 (sym (ap (λ (a : Answer). a.refusal) answer) ∙ z) in
     let free = c.place_of-free.ensures in
     let row = row-so (goal.at.returns c).After-row_of-row in (
       (λ i. record { at = free i; row = row i; answer = answer i }) ∙ sym (ap (λ (x : Admission). x.change) so),
       rw free (low (goal.at.returns c).Else-planned-ne0),
       c.copy_plan.ensures.words_after z
           ∙ ap₂ (λ (n : ℕ) (plan : List ℕ). take n plan ++ drop n words) (count (goal.at.returns c).Else-planned-ne0) (enters (goal.at.returns c).Else-planned-ne0).2
-          ∙ plan-copied (table (goal.at.returns c).Start) zeros words
+          ∙ plan-copied (costed c.args.table c.args.cost) zeros words
           ∙ sym (ap (λ (x : Admission). x.words) so),
     )

@@ -3,7 +3,6 @@ use mathlib.Core.Path.{◌≡◌, sym, ap, ◌∙◌}
 use native.Mathlib.Omega.{arith}
 use lib.ListN.{replicate}
 use lib.Seq.{length-take-le}
-use Rattle.tables.specs.declared.TaskTable.{TaskTable}
 use Rattle.tables.specs.Cost.{costed}
 use Rattle.plans.specs.Words.{words_max}
 use Rattle.planreaders.specs.Plan.{on_plan, plan_of}
@@ -13,17 +12,14 @@ use Rattle.planreaders.proofs.Aside.{Aside, read-aside}
 use Rattle.judges.specs.Judging.{judged, judged_for}
 use Rattle.judges.proofs.Tests.{few_words_lem, words-enough}
 use Rattle.judges.proofs.judge_plan.Goals as goal
-use Rattle.judges.proofs.judge_plan.Goals.{After-read_words-step, In-Read, Start}
-
-abbrev task : Start → TaskTable
-task c = costed c.args.table c.args.cost
+use Rattle.judges.proofs.judge_plan.Goals.{After-read_words-step, In-Read}
 
 pub returns-then-words-lt-WORDS_MAX : goal.returns-then-words-lt-WORDS_MAX
 returns-then-words-lt-WORDS_MAX c =
-    rw (c.refused.ensures, c.of.ensures) (sym (few_words_lem c.args.plan.now c.args.words.now (task (goal.at.returns-then-words-lt-WORDS_MAX c).Start) c.if-words-lt-WORDS_MAX.true))
+    rw (c.refused.ensures, c.of.ensures) (sym (few_words_lem c.args.plan.now c.args.words.now (costed c.args.table c.args.cost) c.if-words-lt-WORDS_MAX.true))
 
-call : (c : After-read_words-step) → (judged_for c.args.plan.now c.args.words.now (task (goal.at.After-read_words-step c).Start) ≡ on_plan (unread c.args.words.now) (judged c.args.words.now (task (goal.at.After-read_words-step c).Start)) (plan_of c.args.plan.now))
-call c = words-enough c.args.plan.now c.args.words.now (task (goal.at.After-read_words-step c).Start) c.if-words-lt-WORDS_MAX.false
+call : (c : After-read_words-step) → (judged_for c.args.plan.now c.args.words.now (costed c.args.table c.args.cost) ≡ on_plan (unread c.args.words.now) (judged c.args.words.now (costed c.args.table c.args.cost)) (plan_of c.args.plan.now))
+call c = words-enough c.args.plan.now c.args.words.now (costed c.args.table c.args.cost) c.if-words-lt-WORDS_MAX.false
 
 aside : (c : In-Read) → Aside c.args.plan.now c.read_words-step.new.words words_max c.in-Read.id c.in-Read.count
 aside c = read-aside _ (replicate words_max 0) (omega arith) c.read_words-step.ensures.value c.read_words-step.ensures.by_index c.in-Read.is
@@ -44,12 +40,12 @@ pub returns-in-Refused : goal.returns-in-Refused
 returns-in-Refused c =
     let w = c.args.words.now in
     rw c.refused-in-Refused.ensures
-    (sym (call (goal.at.returns-in-Refused c).After-read_words-step ∙ ap (on_plan (unread w) (judged w (task (goal.at.returns-in-Refused c).Start))) (step-refused (plan_of c.args.plan.now) (sym c.read_words-step.ensures.value ∙ c.in-Refused.is))))
+    (sym (call (goal.at.returns-in-Refused c).After-read_words-step ∙ ap (on_plan (unread w) (judged w (costed c.args.table c.args.cost))) (step-refused (plan_of c.args.plan.now) (sym c.read_words-step.ensures.value ∙ c.in-Refused.is))))
 
 pub returns-in-Read : goal.returns-in-Read
 returns-in-Read c =
     let a = aside (goal.at.returns-in-Read c).In-Read in
     let w = c.args.words.now in
     c.judge_words.ensures
-    ∙ ap (judged w (task (goal.at.returns-in-Read c).Start) c.in-Read.id) a.front
-    ∙ sym (call (goal.at.returns-in-Read c).After-read_words-step ∙ ap (on_plan (unread w) (judged w (task (goal.at.returns-in-Read c).Start))) a.is)
+    ∙ ap (judged w (costed c.args.table c.args.cost) c.in-Read.id) a.front
+    ∙ sym (call (goal.at.returns-in-Read c).After-read_words-step ∙ ap (on_plan (unread w) (judged w (costed c.args.table c.args.cost))) a.is)

@@ -39,23 +39,17 @@ module _ (bytes plan : List ℕ) (j : Judging) {w : List ℕ} (e : record { answ
         let own = ap (λ (x : After (List ℕ)). x.answer.value) accepts.is ∙ accepts.own in
         rw (← e, eq-eqb j.answer.refusal 0 z, own, told.period, told.work, told.path)
 
-abbrev bytes : After-judge-judging → List ℕ
-bytes c = c.args.bytes.now
-
-abbrev plan : After-judge-judging → List ℕ
-plan c = c.args.plan.now
-
-judgement : (c : After-judge-judging) → record { answer = c.judge-judging.result.answer; lent = c.judge-judging.new.words } ≡ judged_pair (bytes c) (plan c)
+judgement : (c : After-judge-judging) → record { answer = c.judge-judging.result.answer; lent = c.judge-judging.new.words } ≡ judged_pair c.args.bytes.now c.args.plan.now
 judgement c = c.judge-judging.ensures.words_after
 
 pub returns-then-answer-ne0 : goal.returns-then-answer-ne0
 returns-then-answer-ne0 c =
-    wrote-same (ap refused_line c.told_by.ensures ∙ text-refused (bytes (goal.at.returns-then-answer-ne0 c).After-judge-judging) (plan (goal.at.returns-then-answer-ne0 c).After-judge-judging) c.judge-judging.result (judgement (goal.at.returns-then-answer-ne0 c).After-judge-judging) c.if-answer-ne0.true) c.put_refusal.ensures
+    wrote-same (ap refused_line c.told_by.ensures ∙ text-refused c.args.bytes.now c.args.plan.now c.judge-judging.result (judgement (goal.at.returns-then-answer-ne0 c).After-judge-judging) c.if-answer-ne0.true) c.put_refusal.ensures
 
 pub put_sheet-requires : goal.put_sheet-requires
 put_sheet-requires c =
-    record { sheet_max_in_bounds = c.requires; printable = printable (accepts (bytes (goal.at.put_sheet-requires c).After-judge-judging) (plan (goal.at.put_sheet-requires c).After-judge-judging) c.judge-judging.result (judgement (goal.at.put_sheet-requires c).After-judge-judging) c.if-answer-ne0.false) }
+    record { sheet_max_in_bounds = c.requires; printable = printable (accepts c.args.bytes.now c.args.plan.now c.judge-judging.result (judgement (goal.at.put_sheet-requires c).After-judge-judging) c.if-answer-ne0.false) }
 
 pub returns : goal.returns
 returns c =
-    wrote-same (text-sheet (bytes (goal.at.returns c).After-judge-judging) (plan (goal.at.returns c).After-judge-judging) c.judge-judging.result (judgement (goal.at.returns c).After-judge-judging) c.if-answer-ne0.false (c.judge-judging.ensures.judged c.if-answer-ne0.false)) c.put_sheet.ensures
+    wrote-same (text-sheet c.args.bytes.now c.args.plan.now c.judge-judging.result (judgement (goal.at.returns c).After-judge-judging) c.if-answer-ne0.false (c.judge-judging.ensures.judged c.if-answer-ne0.false)) c.put_sheet.ensures

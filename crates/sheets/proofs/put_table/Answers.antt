@@ -6,7 +6,6 @@ use lib.ListN.{replicate}
 use native.Mathlib.Omega.{arith}
 use Rattle.refusals.specs.Answer.{accepted}
 use Rattle.refusals.specs.After.{After}
-use Rattle.tables.specs.declared.TaskTable.{TaskTable}
 use Rattle.tables.specs.Cost.{costed}
 use Rattle.plans.specs.Calls.{unplanned, planned}
 use Rattle.plans.specs.Words.{words_max, written}
@@ -23,29 +22,25 @@ use Rattle.sheets.proofs.put_table.Goals.{After-plan_table-planning, Else-answer
 abbrev zeros : List ℕ
 zeros = replicate words_max 0
 
--- the table that is planned
-abbrev table : (c : After-plan_table-planning) → TaskTable
-table c = costed c.args.table sheet_cost
-
 -- no later rule refuses, so that planning is the plain call
-plans : (c : After-plan_table-planning) → record { answer = c.plan_table-planning.result.answer; lent = c.plan_table-planning.new.words } ≡ table_plan (accepted 0) zeros (table c)
+plans : (c : After-plan_table-planning) → record { answer = c.plan_table-planning.result.answer; lent = c.plan_table-planning.new.words } ≡ table_plan (accepted 0) zeros (costed c.args.table sheet_cost)
 plans c = rw c.accepted.ensures at c.plan_table-planning.ensures.words_after
 
 pub returns-then-answer-ne0 : goal.returns-then-answer-ne0
 returns-then-answer-ne0 c =
     let answered = ap (λ (x : After (List ℕ)). x.answer) (plans (goal.at.returns-then-answer-ne0 c).After-plan_table-planning) in
-    wrote-same (ap refused_line c.told_by.ensures ∙ table-told refused_line table_sheet zeros (table (goal.at.returns-then-answer-ne0 c).After-plan_table-planning) answered c.if-answer-ne0.true) c.put_refusal.ensures
+    wrote-same (ap refused_line c.told_by.ensures ∙ table-told refused_line table_sheet zeros (costed c.args.table sheet_cost) answered c.if-answer-ne0.true) c.put_refusal.ensures
 
 pub plan_table-planning-requires : goal.plan_table-planning-requires
 plan_table-planning-requires c = (c.requires.1, omega arith)
 
 -- past the test the table is accepted, and its plan stands in the words
-totals : (c : Else-answer-ne0) → (Totalled (table (goal.at-Else-answer-ne0 c).After-plan_table-planning) c.plan_table-planning.result)
+totals : (c : Else-answer-ne0) → (Totalled (costed c.args.table sheet_cost) c.plan_table-planning.result)
 totals c = c.plan_table-planning.ensures.totalled c.if-answer-ne0.false
 
-words : (c : Else-answer-ne0) → (c.plan_table-planning.new.words ≡ written (table (goal.at-Else-answer-ne0 c).After-plan_table-planning) zeros)
+words : (c : Else-answer-ne0) → (c.plan_table-planning.new.words ≡ written (costed c.args.table sheet_cost) zeros)
 words c =
-    ap (λ (x : After (List ℕ)). x.lent) (plans (goal.at-Else-answer-ne0 c).After-plan_table-planning ∙ on_fits (unplanned zeros) (planned zeros) (table (goal.at-Else-answer-ne0 c).After-plan_table-planning) (totals c).table.free (totals c).table.fits)
+    ap (λ (x : After (List ℕ)). x.lent) (plans (goal.at-Else-answer-ne0 c).After-plan_table-planning ∙ on_fits (unplanned zeros) (planned zeros) (costed c.args.table sheet_cost) (totals c).table.free (totals c).table.fits)
 
 pub put_sheet-requires : goal.put_sheet-requires
 put_sheet-requires c =
@@ -54,5 +49,5 @@ put_sheet-requires c =
 pub returns : goal.returns
 returns c =
     wrote-same
-    (rw ((totals (goal.at.returns c).Else-answer-ne0).work, (totals (goal.at.returns c).Else-answer-ne0).path, words (goal.at.returns c).Else-answer-ne0) (sym (on_fits refused_line table_sheet (table (goal.at.returns c).After-plan_table-planning) (totals (goal.at.returns c).Else-answer-ne0).table.free (totals (goal.at.returns c).Else-answer-ne0).table.fits)))
+    (rw ((totals (goal.at.returns c).Else-answer-ne0).work, (totals (goal.at.returns c).Else-answer-ne0).path, words (goal.at.returns c).Else-answer-ne0) (sym (on_fits refused_line table_sheet (costed c.args.table sheet_cost) (totals (goal.at.returns c).Else-answer-ne0).table.free (totals (goal.at.returns c).Else-answer-ne0).table.fits)))
     c.put_sheet.ensures
