@@ -1,7 +1,6 @@
 -- What a public call answers, as numbers that C can read.
-use Rattle.std.specs.Prelude.{ℕ}
+use Rattle.std.specs.Prelude.{ℕ, Result, Ok, Err, ⊤}
 use Rattle.refusals.specs.declared.Refusal.{Refusal}
-use Rattle.refusals.specs.declared.Outcome.{Outcome}
 use Rattle.refusals.specs.declared.Answer.{Answer}
 use Rattle.refusals.specs.Refusal.{on_outcome}
 
@@ -14,5 +13,10 @@ abbrev pub refused : Refusal → Answer
 refused r = record { refusal = r.number; place = r.place; value = 0; ring = r.ring }
 
 -- "a definition gives this paper's number and values for every case of the enum": an acceptance has refusal 0
-abbrev pub answer_of : Outcome → Answer
+abbrev pub answer_of : Result ⊤ Refusal → Answer
 answer_of outcome = on_outcome refused (accepted 0) outcome
+
+-- the same of a call that returns a value where it accepts
+abbrev pub answered : Result ℕ Refusal → Answer
+answered (Ok value) = accepted value
+answered (Err r) = refused r

@@ -1,8 +1,8 @@
 -- Rules of three kinds, tried in turn.
-use Rattle.refusals.specs.declared.Outcome.{Outcome}
-use Rattle.refusals.specs.declared.Outcome.TheVariants.{Refused}
+use Rattle.std.specs.Prelude.{Result, Err, ⊤}
+use Rattle.refusals.specs.declared.Refusal.{Refusal}
 use Rattle.refusals.specs.Refusal.{on_outcome}
 
 -- the first refusal of the three, in document 01's order
-abbrev pub in_order : Outcome → Outcome → Outcome → Outcome
-in_order first second third = on_outcome Refused (on_outcome Refused third second) first
+abbrev pub in_order : Result ⊤ Refusal → Result ⊤ Refusal → Result ⊤ Refusal → Result ⊤ Refusal
+in_order first second third = on_outcome Err (on_outcome Err third second) first

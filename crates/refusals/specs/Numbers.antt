@@ -1,5 +1,7 @@
 -- The refusal numbers of document 01's table "Refusal numbers and their order", and those that requests added, each by a name.
 use Rattle.std.specs.Prelude.{ℕ}
+use Rattle.refusals.specs.declared.Reason.{Reason}
+use Rattle.refusals.specs.declared.Reason.TheVariants.{Ended, TooLong, BadEdition, BadId, BadPeriod, BadCount, BadExecution, BadParent, BytesFollow, Loop, LongPath, IdStands, BoardFull, NotStanding, BadCores, FewWords, UnsoundBoard, NotShortest, WrongLength, VerdictNo, NoneRuns, BadLayout, ManyTasks, BadPlan, BrokenRule, HighCost, LongFile, BigWord}
 
 -- the input ends before a needed byte
 abbrev pub ended : ℕ
@@ -112,3 +114,34 @@ long_file = 27
 -- an id or written word of 2^63 or more
 abbrev pub big_word : ℕ
 big_word = 28
+
+-- each reason has its number of the table
+abbrev pub number_of : Reason → ℕ
+number_of Ended = ended
+number_of TooLong = too_long
+number_of BadEdition = bad_edition
+number_of BadId = bad_id
+number_of BadPeriod = bad_period
+number_of BadCount = bad_count
+number_of BadExecution = bad_execution
+number_of BadParent = bad_parent
+number_of BytesFollow = bytes_follow
+number_of Loop = loop
+number_of LongPath = long_path
+number_of IdStands = id_stands
+number_of BoardFull = board_full
+number_of NotStanding = not_standing
+number_of BadCores = bad_cores
+number_of FewWords = few_words
+number_of UnsoundBoard = unsound_board
+number_of NotShortest = not_shortest
+number_of WrongLength = wrong_length
+number_of VerdictNo = verdict_no
+number_of NoneRuns = none_runs
+number_of BadLayout = bad_layout
+number_of ManyTasks = many_tasks
+number_of BadPlan = bad_plan
+number_of BrokenRule = broken_rule
+number_of HighCost = high_cost
+number_of LongFile = long_file
+number_of BigWord = big_word

@@ -1,8 +1,6 @@
 -- A refusal, and what goes on where there is none.
-use Rattle.std.specs.Prelude.{ℕ}
+use Rattle.std.specs.Prelude.{ℕ, Result, Ok, Err, ⊤}
 use Rattle.refusals.specs.declared.Refusal.{Refusal}
-use Rattle.refusals.specs.declared.Outcome.{Outcome}
-use Rattle.refusals.specs.declared.Outcome.TheVariants.{Accepted, Refused}
 use Rattle.refusals.specs.declared.Answer.{Answer}
 use Rattle.refusals.specs.Numbers.{loop}
 
@@ -19,6 +17,6 @@ abbrev pub refusal_of : Answer → Refusal
 refusal_of a = record { number = a.refusal; place = a.place; ring = a.ring }
 
 -- a refusal goes out by `refuse`; where something was accepted, `go` goes on
-abbrev pub on_outcome : {A : Type 0} → (Refusal → A) → A → Outcome → A
-on_outcome refuse go Accepted = go
-on_outcome refuse go (Refused r) = refuse r
+abbrev pub on_outcome : {A : Type 0} → (Refusal → A) → A → Result ⊤ Refusal → A
+on_outcome refuse go (Ok done) = go
+on_outcome refuse go (Err r) = refuse r
