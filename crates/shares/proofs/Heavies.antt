@@ -1,16 +1,18 @@
 -- The heavy segments: each law adds one segment at a time by its own test, as the sums do; a count that is s, or 0, settles every test.
-use mathlib.Core.Path.{◌≡◌, refl, sym, ◌∙◌}
+use mathlib.Core.Path.{◌≡◌, refl, ◌∙◌}
 use mathlib.Core.Logic.{⊎_elim}
 use mathlib.Core.Bool.{Bool, true, false}
 use Prim.Native.Nat.{ℕ, ◌+◌, ◌*◌, ◌-◌, ◌≤◌, ◌<◌}
-use native.Mathlib.Nat.{mul-pos, le_refl}
+use native.Mathlib.Nat.{mul-pos, le_refl, add-zero}
 use native.Mathlib.Omega.{arith}
 use borrow.Author.Tests.{ltb-true, ltb-false}
 use Rattle.plain.specs.Pick.{pick, one}
 use Rattle.plain.specs.Sums.{sum_to}
 use Rattle.plain.proofs.Lists.{lt-or-ge}
-use Rattle.plain.proofs.Sums.{sum_same, sum_mono, sum_less, sum_ones, sum-zero, sum-under, sum_to-none, sum_to-more}
+use Rattle.plain.proofs.Sums.{sum_same, sum_mono, sum_less, sum_ones, sum-zero, sum-under, sum_to-more}
+use Rattle.shares.specs.declared.Kinds.{Kinds}
 use Rattle.shares.specs.Heavy.{is_heavy, heavies, heavy_work, light_length}
+use Rattle.shares.specs.Inner.Kinds.{kinds}
 use Rattle.shares.proofs.Sums.{part-under}
 
 -- the test, both ways
@@ -112,31 +114,16 @@ module _ (T C P s : ℕ) (m e : ℕ → ℕ) where
               let y = mul-pos (p j l) (q j l) in
               omega arith
 
--- count, H and L of the first j segments, and after one segment more
-pub record Counted (T C P j : ℕ) (m e : ℕ → ℕ) (count work length : ℕ) : Type 0 where
-  pub count-is : count ≡ heavies T C P j m
-  pub work-is : work ≡ heavy_work T C P j m e
-  pub length-is : length ≡ light_length T C P j m e
+-- count, H and L of no segment, and of one segment more
+pub kinds-none : (T C P : ℕ) (m e : ℕ → ℕ) → record { heavies = 0; work = 0; length = 0 } ≡ kinds T C P 0 m e
+unfolding heavies heavy_work light_length sum_to
+kinds-none T C P m e = refl
 
-module _ {T C P j : ℕ} {m e : ℕ → ℕ} where
-  pub counted-heavy : {count work length : ℕ} → is_heavy T C P (m j) ≡ true → Counted T C P j m e count work length → Counted T C P (j + 1) m e (count + 1) (work + m j * e j) length
+module _ (T C P j : ℕ) (m e : ℕ → ℕ) {k : Kinds} where
+  pub kinds-heavy : is_heavy T C P (m j) ≡ true → k ≡ kinds T C P j m e → record { heavies = k.heavies + 1; work = k.work + m j * e j; length = k.length } ≡ kinds T C P (j + 1) m e
   unfolding heavies heavy_work light_length
-  counted-heavy t i =
-      record {
-        count-is = rw (i.count-is, sum_to-more, t);
-        work-is = rw (i.work-is, sum_to-more, t);
-        length-is = rw (i.length-is, sum_to-more, t) (omega arith);
-      }
+  kinds-heavy t i = rw i (simp (sum_to-more, t, add-zero))
 
-  pub counted-light : {count work length : ℕ} → is_heavy T C P (m j) ≡ false → Counted T C P j m e count work length → Counted T C P (j + 1) m e count work (length + e j)
+  pub kinds-light : is_heavy T C P (m j) ≡ false → k ≡ kinds T C P j m e → record { heavies = k.heavies; work = k.work; length = k.length + e j } ≡ kinds T C P (j + 1) m e
   unfolding heavies heavy_work light_length
-  counted-light t i =
-      record {
-        count-is = rw (i.count-is, sum_to-more, t) (omega arith);
-        work-is = rw (i.work-is, sum_to-more, t) (omega arith);
-        length-is = rw (i.length-is, sum_to-more, t);
-      }
-
-pub counted_none : {T C P : ℕ} {m e : ℕ → ℕ} → Counted T C P 0 m e 0 0 0
-unfolding heavies heavy_work light_length
-counted_none = record { count-is = sym (sum_to-none _); work-is = sym (sum_to-none _); length-is = sym (sum_to-none _) }
+  kinds-light t i = rw i (simp (sum_to-more, t, add-zero))

@@ -1,4 +1,5 @@
-// Shares of the period: heavy and light segments, Q, deadline numerators, densities.
+// Shares of the period: heavy and light segments, Q, deadline numerators, densities. The words are C's, longer than a plan (the C interface), and
+// those of them that count segments and nodes are written last: so s and n stand beside them.
 #![tactic(auto)]
 
 ghost use Rattle.std.specs.Prelude.{◌≡◌, ◌++◌, ℕ, ◌+◌, ◌*◌, ◌-◌, ◌≤◌, ◌<◌, length, drop};
@@ -43,91 +44,93 @@ pub fn millionths(execution: u64, over: u64, numerator: u64) -> u64
     (execution * over * tables::MILLION + (numerator - 1)) / numerator
 }
 
-// Whether a segment is heavy.
-pub fn is_heavy(period: u64, work: u64, path: u64, threads: u64) -> bool
-    requires { HeavyIn period path threads }
-    ensures { result ≡ is_heavy period work path threads }
-{
-    work < threads * (2 * period - path)
+// A task's period, work and path: they say which of its segments are heavy, and so how the period is dealt out.
+#[derive(Clone, Copy)]
+pub struct Times {
+    pub period: u64,
+    pub work: u64,
+    pub path: u64,
 }
 
-// The heavy segments counted, with their work and the length of the light ones.
-pub fn kinds_of(words: &[u64], s: usize, period: u64, work: u64, path: u64) -> Kinds
-    requires { DealIn words.now s period work path }
-    ensures { result ≡ kinds period work path s (threads_at words.now) (length_at words.now) }
-{
-    let mut heavies: usize = 0;
-    let mut heavy: u64 = 0;
-    let mut light: u64 = 0;
-    let mut j: usize = 0;
-    while j < s {
-        let m = words[3 + 3 * j];
-        let e = words[4 + 3 * j];
-        if is_heavy(period, work, path, m) {
-            heavies += 1;
-            heavy += m * e;
-        } else {
-            light += e;
+impl Times {
+    // Whether a segment is heavy.
+    pub fn is_heavy(self, threads: u64) -> bool
+        requires { HeavyIn self.period self.path threads }
+        ensures { result ≡ is_heavy self.period self.work self.path threads }
+    {
+        self.work < threads * (2 * self.period - self.path)
+    }
+
+    // The heavy segments counted, with their work and the length of the light ones.
+    pub fn kinds_of(self, words: &[u64], s: usize) -> Kinds
+        requires { DealIn words.now s self.period self.work self.path }
+        ensures { result ≡ kinds self.period self.work self.path s (threads_at words.now) (length_at words.now) }
+    {
+        let mut kinds = Kinds {
+            heavies: 0,
+            work: 0,
+            length: 0,
+        };
+        for j in 0..s {
+            let threads = words[3 + 3 * j];
+            let length = words[4 + 3 * j];
+            if self.is_heavy(threads) {
+                kinds.heavies += 1;
+                kinds.work += threads * length;
+            } else {
+                kinds.length += length;
+            }
         }
-        j += 1;
+        kinds
     }
-    Kinds {
-        heavies,
-        work: heavy,
-        length: light,
-    }
-}
 
-// How a task's period is dealt out.
-pub fn deal_of(words: &[u64], s: usize, period: u64, work: u64, path: u64) -> Deal
-    requires { DealIn words.now s period work path }
-    ensures { result ≡ deal period work path s (threads_at words.now) (length_at words.now) }
-{
-    let k = kinds_of(words, s, period, work, path);
-    if k.heavies == s {
-        return Deal {
-            over: work,
-            heavy: period,
-            light: 0,
-        };
+    // How a task's period is dealt out.
+    pub fn deal_of(self, words: &[u64], s: usize) -> Deal
+        requires { DealIn words.now s self.period self.work self.path }
+        ensures { result ≡ deal self.period self.work self.path s (threads_at words.now) (length_at words.now) }
+    {
+        let kinds = self.kinds_of(words, s);
+        if kinds.heavies == s {
+            Deal {
+                over: self.work,
+                heavy: self.period,
+                light: 0,
+            }
+        } else if kinds.heavies == 0 {
+            Deal {
+                over: self.path,
+                heavy: 0,
+                light: self.period,
+            }
+        } else {
+            Deal {
+                over: 2 * kinds.work,
+                heavy: 2 * self.period - kinds.length,
+                light: kinds.work,
+            }
+        }
     }
-    if k.heavies == 0 {
-        return Deal {
-            over: path,
-            heavy: 0,
-            light: period,
-        };
-    }
-    Deal {
-        over: 2 * k.work,
-        heavy: 2 * period - k.length,
-        light: k.work,
-    }
-}
 
-// The deadline numerator of a segment.
-pub fn numerator_of(d: Deal, period: u64, work: u64, path: u64, threads: u64, length: u64) -> u64
-    requires { NumeratorIn d period path threads length }
-    ensures { result ≡ numerator d period work path threads length }
-{
-    if is_heavy(period, work, path, threads) {
-        d.heavy * threads * length
-    } else {
-        length * d.light
+    // The deadline numerator of a segment.
+    pub fn numerator_of(self, d: Deal, threads: u64, length: u64) -> u64
+        requires { NumeratorIn d self.period self.path threads length }
+        ensures { result ≡ numerator d self.period self.work self.path threads length }
+    {
+        if self.is_heavy(threads) {
+            d.heavy * threads * length
+        } else {
+            length * d.light
+        }
     }
-}
 
-// The numerators of s segments, each written beside its threads and length.
-pub fn fill_numerators(words: &mut [u64], s: usize, d: Deal, period: u64, work: u64, path: u64)
-    requires { FillIn words.old s d period path }
-    ensures { Numbered d period work path s words.old words.new }
-{
-    let mut j: usize = 0;
-    while j < s {
-        let m = words[3 + 3 * j];
-        let e = words[4 + 3 * j];
-        words[5 + 3 * j] = numerator_of(d, period, work, path, m, e);
-        j += 1;
+    // The numerators of s segments, each written beside its threads and length.
+    pub fn fill_numerators(self, words: &mut [u64], s: usize, d: Deal)
+        requires { FillIn words.old s d self.period self.path }
+        ensures { Numbered d self.period self.work self.path s words.old words.new }
+    {
+        for j in 0..s {
+            words[5 + 3 * j] = self.numerator_of(d, words[3 + 3 * j], words[4 + 3 * j]);
+        }
     }
 }
 
@@ -137,23 +140,19 @@ pub fn sums_of(words: &[u64], s: usize) -> [u64; 65]
     ensures { (j : ℕ) → j ≤ s → at result j ≡ sum_to j (numerator_at words.now) }
 {
     let mut sums = [0u64; 65];
-    let mut sum: u64 = 0;
-    let mut j: usize = 0;
-    while j < s {
-        sum += words[5 + 3 * j];
-        j += 1;
-        sums[j] = sum;
+    for j in 0..s {
+        sums[j + 1] = sums[j] + words[5 + 3 * j];
     }
     sums
 }
 
 // The node part of a plan: the words from the first past the segments on.
 // A node runs, in stretched time, from D at its first cut to D at its last.
-pub fn fill_nodes<'a>(
+pub fn fill_nodes(
     out: &mut [u64],
     sums: &[u64; 65],
-    first: &'a [u8; 64],
-    last: &'a [u8; 64],
+    first: &[u8; 64],
+    last: &[u8; 64],
     executions: &[u64; 64],
     n: usize,
     over: u64,
@@ -161,17 +160,13 @@ pub fn fill_nodes<'a>(
     requires { NodesIn sums.now first.now last.now executions.now n over (length out.old) }
     ensures { out.new ≡ triples (offset_by sums.now first.now) (span_by sums.now first.now last.now) (λ v. millionths (at executions.now v) over (span_by sums.now first.now last.now v)) n ++ drop (3 * n) out.old }
 {
-    let mut v: usize = 0;
-    while v < n {
+    for v in 0..n {
         let k = 3 * v;
-        let from = first[v] as usize;
-        let to = last[v] as usize;
-        let offset = sums[from];
-        let d = sums[to] - offset;
+        let offset = sums[first[v] as usize];
+        let d = sums[last[v] as usize] - offset;
         out[k] = offset;
         out[k + 1] = d;
         out[k + 2] = millionths(executions[v], over, d);
-        v += 1;
     }
 }
 
@@ -188,31 +183,24 @@ pub fn figures_of(nodes: &[u64], n: usize) -> Figures
     requires by_index { (v : ℕ) → v < n → at nodes.now (3 * v + 2) ≤ density_max }
     ensures { result ≡ figures n (λ v. at nodes.now (3 * v + 2)) }
 {
-    let mut sum: u64 = 0;
-    let mut largest: u64 = 0;
-    let mut v: usize = 0;
-    while v < n {
+    let mut figures = Figures { sum: 0, largest: 0 };
+    for v in 0..n {
         let density = nodes[3 * v + 2];
-        sum += density;
-        if largest < density {
-            largest = density;
-        }
-        v += 1;
+        figures.sum += density;
+        figures.largest = figures.largest.max(density);
     }
-    Figures { sum, largest }
+    figures
 }
 
-// The smaller of two deadlines; 0 is none.
+// The smaller of two deadlines; 0 is none, and no Option: so `Row::shortest` keeps it, which C lends (the C interface).
 fn smaller(a: u64, b: u64) -> u64
     ensures { result ≡ smaller a b }
 {
-    if a == 0 {
-        return b;
+    match (a, b) {
+        (0, _) => b,
+        (_, 0) => a,
+        _ => a.min(b),
     }
-    if b == 0 {
-        return a;
-    }
-    if a < b { a } else { b }
 }
 
 // The smallest deadline of a task's n nodes, from the node words of its plan; a join has none.
@@ -220,11 +208,9 @@ pub fn shortest_of(nodes: &[u64], n: usize) -> u64
     requires { (n ≤ count_max) × (3 * n ≤ length nodes.now) }
     ensures { result ≡ smallest_to n (λ v. at nodes.now (3 * v + 1)) }
 {
-    let mut shortest: u64 = 0;
-    let mut v: usize = 0;
-    while v < n {
+    let mut shortest = 0;
+    for v in 0..n {
         shortest = smaller(shortest, nodes[3 * v + 1]);
-        v += 1;
     }
     shortest
 }

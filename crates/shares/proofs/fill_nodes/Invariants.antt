@@ -1,6 +1,3 @@
-use mathlib.Core.Path.{◌≡◌}
-use Prim.Native.Nat.{◌-◌, ◌≤◌}
-use lib.ListN.{length}
 use Rattle.plain.specs.At.{at}
 use Rattle.shares.specs.Density.{millionths}
 use Rattle.shares.specs.Inner.Spans.{offset_by, span_by}
@@ -9,8 +6,4 @@ use Rattle.shares.proofs.fill_nodes.Given as goal
 
 abbrev pub invariant-loop-v : goal.invariant-loop-v
 invariant-loop-v l =
-    (l.v ≤ l.n) × (length l.out ≡ length l.initial.out)
-    × Tripled (offset_by l.sums l.first) (span_by l.sums l.first l.last) (λ k. millionths (at l.executions k) l.over (span_by l.sums l.first l.last k)) l.initial.out l.v l.out
-
-abbrev pub decreases-loop-v : goal.decreases-loop-v
-decreases-loop-v l = l.n - l.v
+    Tripled (offset_by l.sums l.first) (span_by l.sums l.first l.last) (λ k. millionths (at l.executions k) l.over (span_by l.sums l.first l.last k)) l.initial.out l.v l.out

@@ -1,22 +1,16 @@
 -- `shares::smaller` meets its contract: it asks the definition's tests in their order, and the lesser of two is their minimum.
-use mathlib.Core.Path.{refl}
-use native.Mathlib.Omega.{arith}
 use borrow.Author.Tests.{eq-eqb, ne_eqb}
 use Rattle.shares.specs.Figures.{smaller}
 use Rattle.shares.proofs.smaller.Goals as goal
 
-pub returns-then-a-eq0 : goal.returns-then-a-eq0
+pub returns-in-0-default : goal.returns-in-0-default
 unfolding smaller
-returns-then-a-eq0 c = rw (eq-eqb _ _ c.if-a-eq0.true) refl
+returns-in-0-default c = rw (eq-eqb _ _ c.in-0-default.is-0)
 
-pub returns-then-b-eq0 : goal.returns-then-b-eq0
+pub returns-in_default-eq0 : goal.returns-in_default-eq0
 unfolding smaller
-returns-then-b-eq0 c = rw (ne_eqb _ _ c.if-a-eq0.false, eq-eqb _ _ c.if-b-eq0.true) refl
+returns-in_default-eq0 c = rw (ne_eqb _ _ c.in_default-eq0.is-0.1, eq-eqb _ _ c.in_default-eq0.is-1)
 
-pub returns-then-a-b : goal.returns-then-a-b
+pub returns-in_default : goal.returns-in_default
 unfolding smaller
-returns-then-a-b c = rw (ne_eqb _ _ c.if-a-eq0.false, ne_eqb _ _ c.if-b-eq0.false) (omega arith)
-
-pub returns-else-a-b : goal.returns-else-a-b
-unfolding smaller
-returns-else-a-b c = rw (ne_eqb _ _ c.if-a-eq0.false, ne_eqb _ _ c.if-b-eq0.false) (omega arith)
+returns-in_default c = rw (ne_eqb _ _ c.in_default.is-0.1, ne_eqb _ _ c.in_default.is-1.1, c.min.ensures)
