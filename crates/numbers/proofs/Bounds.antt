@@ -4,14 +4,16 @@ use mathlib.Core.Path.{◌≡◌, refl}
 use mathlib.Core.Bool.{Bool, true, false}
 use mathlib.Core.List.{List, [], ◌∷◌}
 use native.Mathlib.Omega.{arith}
+use Rattle.std.specs.Prelude.{Result, Ok, Err}
 use native.Mathlib.Nat.{pow-succ', one-le-pow, pow-le-pow_right, lt_of_lt_of_le}
 use lib.ListN.{length}
 use lib.Dec.{ltb, eqb}
 use borrow.Author.Tests.{ltb-true}
 use Rattle.plain.specs.Pick.{pick}
 use Rattle.numbers.specs.declared.Number.{Number}
-use Rattle.numbers.specs.declared.Number.TheVariants.{Value, Ended, TooLong, NotShortest}
-use Rattle.numbers.specs.Number.{before, number}
+use Rattle.numbers.specs.declared.Fault.{Fault}
+use Rattle.numbers.specs.declared.Fault.TheVariants.{Ended, TooLong, NotShortest}
+use Rattle.numbers.specs.Number.{before, joined, number, worth}
 
 -- a value v of n bytes, at most `more` after the first, from an input of `size` bytes
 pub record Bounded (more size v n : ℕ) : Type 0 where
@@ -21,11 +23,11 @@ pub record Bounded (more size v n : ℕ) : Type 0 where
   pub within : n ≤ size
 
 -- the same of what was found, where that has a value
-abbrev Found : ℕ → ℕ → Number → Type 0
-Found more size (Value v n) = Bounded more size v n
-Found more size Ended = Unit
-Found more size TooLong = Unit
-Found more size (NotShortest v n) = Bounded more size v n
+abbrev Found : ℕ → ℕ → Result Number Fault → Type 0
+Found more size (Ok r) = Bounded more size r.value r.length
+Found more size (Err Ended) = Unit
+Found more size (Err TooLong) = Unit
+Found more size (Err (NotShortest r)) = Bounded more size r.value r.length
 
 -- one byte, and one byte before a rest
 one_byte : (more size b : ℕ) → b < 128 → Bounded more (suc size) b 1
@@ -45,36 +47,36 @@ one_more more size b v n r w h = record {
 }
 
 -- by the clauses of `before` and of `number`
-found_before : (more size b : ℕ) (r : Number) → Found more size r → Found (suc more) (suc size) (before b r)
+found_before : (more size b : ℕ) (r : Result Number Fault) → Found more size r → Found (suc more) (suc size) (before b r)
 unfolding before
-found_before more size b (Value v n) h = by (eqb v 0)
+found_before more size b (Ok r) h = by (eqb r.value 0)
   where
-    by : (t : Bool) → Found (suc more) (suc size) (pick t (NotShortest (b % 128) (n + 1)) (Value (b % 128 + 128 * v) (n + 1)))
-    by true = one_more more size b v n h _ (omega arith)
-    by false = one_more more size b v n h _ (omega arith)
-found_before more size b Ended h = tt
-found_before more size b TooLong h = tt
-found_before more size b (NotShortest v n) h = one_more more size b v n h _ (omega arith)
+    by : (t : Bool) → Found (suc more) (suc size) (pick t (Err (NotShortest (joined b r))) (Ok (joined b r)))
+    by true = one_more more size b r.value r.length h _ (omega arith)
+    by false = one_more more size b r.value r.length h _ (omega arith)
+found_before more size b (Err Ended) h = tt
+found_before more size b (Err TooLong) h = tt
+found_before more size b (Err (NotShortest r)) h = one_more more size b r.value r.length h _ (omega arith)
 
 found : (more : ℕ) (s : List ℕ) → Found more (length s) (number more s)
 unfolding number
 found more [] = tt
 found zero (b ∷ s) = by (ltb b 128) refl
   where
-    by : (t : Bool) → ltb b 128 ≡ t → Found zero (suc (length s)) (pick t (Value b 1) TooLong)
+    by : (t : Bool) → ltb b 128 ≡ t → Found zero (suc (length s)) (pick t (Ok (worth b 1)) (Err TooLong))
     by true e = one_byte zero (length s) b (ltb-true b 128 e)
     by false e = tt
 found (suc more) (b ∷ s) = by (found more s) (ltb b 128) refl
   where
-    by : Found more (length s) (number more s) → (t : Bool) → ltb b 128 ≡ t → Found (suc more) (suc (length s)) (pick t (Value b 1) (before b (number more s)))
+    by : Found more (length s) (number more s) → (t : Bool) → ltb b 128 ≡ t → Found (suc more) (suc (length s)) (pick t (Ok (worth b 1)) (before b (number more s)))
     by h true e = one_byte (suc more) (length s) b (ltb-true b 128 e)
     by h false e = found_before more (length s) b (number more s) h
 
 -- a number that was read, in shortest form or padded
-pub value-bounded : (more : ℕ) (s : List ℕ) (v n : ℕ) → number more s ≡ Value v n → Bounded more (length s) v n
+pub value-bounded : (more : ℕ) (s : List ℕ) (v n : ℕ) → number more s ≡ Ok (worth v n) → Bounded more (length s) v n
 value-bounded more s v n e = rw e at (found more s)
 
-pub padded-bounded : (more : ℕ) (s : List ℕ) (v n : ℕ) → number more s ≡ NotShortest v n → Bounded more (length s) v n
+pub padded-bounded : (more : ℕ) (s : List ℕ) (v n : ℕ) → number more s ≡ Err (NotShortest (worth v n)) → Bounded more (length s) v n
 padded-bounded more s v n e = rw e at (found more s)
 
 -- at most eight bytes leave room in a word for one group more

@@ -7,11 +7,13 @@ use mathlib.Core.List.{List, [], ◌∷◌}
 use native.Mathlib.Nat.{le_of_suc-le-suc}
 use native.Mathlib.Numerals.{add-one}
 use native.Mathlib.Omega.{arith}
+use Rattle.std.specs.Prelude.{Ok, Err}
 use lib.ListN.{length}
 use borrow.Author.Tests.{lt-ltb, le-ltb}
 use Rattle.plain.proofs.Lists.{lt-or-ge}
-use Rattle.numbers.specs.declared.Number.TheVariants.{Value, Ended, TooLong, NotShortest}
-use Rattle.numbers.specs.Number.{before, number}
+use Rattle.numbers.specs.declared.Number.{Number}
+use Rattle.numbers.specs.declared.Fault.TheVariants.{Ended, TooLong, NotShortest}
+use Rattle.numbers.specs.Number.{before, number, worth}
 use Rattle.numbers.specs.Form.{Form, AnyForm, Led, Whole, Ends, Long, Padded}
 use Rattle.numbers.specs.Form.Form.{sole, first}
 use Rattle.numbers.specs.Form.Led.{none, byte}
@@ -37,31 +39,31 @@ pub form-within : {s : List ℕ} {v n : ℕ} → Form s v n → n ≤ length s
 form-within f = any-within (form-any f)
 
 -- what the reader tells of each
-pub whole-read : (more : ℕ) {s : List ℕ} {v n : ℕ} → Form s v n → n ≤ suc more → number more s ≡ Value v n
+pub whole-read : (more : ℕ) {s : List ℕ} {v n : ℕ} → Form s v n → n ≤ suc more → number more s ≡ Ok (worth v n)
 unfolding number
 whole-read zero (sole {b} h) k = rw (lt-ltb b 128 h)
 whole-read (suc more) (sole {b} h) k = rw (lt-ltb b 128 h)
 whole-read zero (first l z r) k = absurd (omega (arith, form-some r))
 whole-read (suc more) (first {b} {s} {v} {n} l z r) k =
-    longer more b b s v n refl l (whole-read more r (le_of_suc-le-suc k)) z ∙ ap (Value (b % 128 + 128 * v)) (add-one n)
+    longer more b s (worth v n) l (whole-read more r (le_of_suc-le-suc k)) z ∙ ap (λ (k : ℕ). Ok (worth (b % 128 + 128 * v) k)) (add-one n)
 
-pub ends_read : (more : ℕ) {k : ℕ} {s : List ℕ} → Led k s [] → k ≤ more → number more s ≡ Ended
+pub ends_read : (more : ℕ) {k : ℕ} {s : List ℕ} → Led k s [] → k ≤ more → number more s ≡ Err Ended
 unfolding number before
 ends_read more none h = refl
 ends_read zero (byte l r) h = absurd (omega arith)
 ends_read (suc more) (byte {b} l r) h = rw (le-ltb b 128 l, ends_read more r (le_of_suc-le-suc h))
 
-pub long-read : (more : ℕ) {s rest : List ℕ} → Led (suc more) s rest → number more s ≡ TooLong
+pub long-read : (more : ℕ) {s rest : List ℕ} → Led (suc more) s rest → number more s ≡ Err TooLong
 unfolding number before
 long-read zero (byte {b} l r) = rw (le-ltb b 128 l)
 long-read (suc more) (byte {b} l r) = rw (le-ltb b 128 l, long-read more r)
 
-pub padded-read : (more : ℕ) {k : ℕ} {s rest : List ℕ} → Led k s (0 ∷ rest) → 0 < k → k ≤ more → (v : ℕ) × (n : ℕ) × (number more s ≡ NotShortest v n)
+pub padded-read : (more : ℕ) {k : ℕ} {s rest : List ℕ} → Led k s (0 ∷ rest) → 0 < k → k ≤ more → (v : ℕ) × (n : ℕ) × (number more s ≡ Err (NotShortest (worth v n)))
 unfolding number before
 padded-read more none z h = absurd (omega arith)
 padded-read zero (byte l r) z h = absurd (omega arith)
 padded-read (suc more) {rest = rest} (byte {b} l none) z h =
-    (b % 128, 2, rw (le-ltb b 128 l, last more (0 ∷ rest) 0 (omega arith) refl (omega arith)))
+    (b % 128 + 128 * 0, 2, rw (le-ltb b 128 l, last more (0 ∷ rest) (omega arith) (omega arith)))
 padded-read (suc more) (byte {b} l (byte l' r)) z h =
     let p = padded-read more (byte l' r) (omega arith) (le_of_suc-le-suc h) in
     (b % 128 + 128 * p.0, p.1 + 1, rw (le-ltb b 128 l, p.2))
@@ -71,17 +73,16 @@ pub padded-worth : {k : ℕ} {s rest : List ℕ} → Led k s (0 ∷ rest) → (v
 padded-worth none = (0, AnyForm.sole {b = 0} (omega arith))
 padded-worth (byte {b} l r) = let w = padded-worth r in (b % 128 + 128 * w.0, AnyForm.first l w.1)
 
-pub padded-told : (more : ℕ) {k : ℕ} {s rest : List ℕ} {v n : ℕ} → Led k s (0 ∷ rest) → 0 < k → k ≤ more → AnyForm s v n → number more s ≡ NotShortest v n
+pub padded-told : (more : ℕ) {k : ℕ} {s rest : List ℕ} {v n : ℕ} → Led k s (0 ∷ rest) → 0 < k → k ≤ more → AnyForm s v n → number more s ≡ Err (NotShortest (worth v n))
 unfolding number before
 padded-told more none z h f = absurd (omega arith)
 padded-told zero (byte l r) z h f = absurd (omega arith)
 padded-told (suc more) (byte l r) z h (AnyForm.sole q) = absurd (omega arith)
 padded-told (suc more) {rest = rest} (byte {b} l none) z h (AnyForm.first _ (AnyForm.sole q)) =
-    let worth : b % 128 ≡ b % 128 + 128 * 0 = omega arith in
-    rw (le-ltb b 128 l, last more (0 ∷ rest) 0 (omega arith) refl (omega arith)) (ap (λ (v : ℕ). NotShortest v 2) worth)
+    rw (le-ltb b 128 l, last more (0 ∷ rest) (omega arith) (omega arith)) refl
 padded-told (suc more) (byte l none) z h (AnyForm.first _ (AnyForm.first q f)) = absurd (omega arith)
 padded-told (suc more) (byte {b} l (byte l' r)) z h (AnyForm.first {v = v} {n = n} _ f) =
-    rw (le-ltb b 128 l, padded-told more (byte l' r) (omega arith) (le_of_suc-le-suc h) f) (ap (NotShortest (b % 128 + 128 * v)) (add-one n))
+    rw (le-ltb b 128 l, padded-told more (byte l' r) (omega arith) (le_of_suc-le-suc h) f) (ap (λ (k : ℕ). Err (NotShortest (worth (b % 128 + 128 * v) k))) (add-one n))
 
 -- one of the four is there
 pub data Found (more : ℕ) (s : List ℕ) : Type 0 where
@@ -107,11 +108,13 @@ found zero (b ∷ s) = ⊎_elim (λ (h : b < 128). whole b 1 (sole h, omega arit
 found (suc more) (b ∷ s) = ⊎_elim (λ (h : b < 128). whole b 1 (sole h, omega arith)) (λ (l : 128 ≤ b). found_before more b l (found more s)) (lt-or-ge b 128)
 
 -- so what is read as a value has its form
-pub read_whole : (more : ℕ) (s : List ℕ) (v n : ℕ) → number more s ≡ Value v n → Whole more s v n
+pub read_whole : (more : ℕ) (s : List ℕ) (v n : ℕ) → number more s ≡ Ok (worth v n) → Whole more s v n
 read_whole more s v n e = by (found more s)
   where
     by : Found more s → Whole more s v n
-    by (whole u m w) = let q = sym (whole-read more w.0 w.1) ∙ e in let x : u ≡ v = cc in let y : m ≡ n = cc in rw (← x, ← y) w
+    by (whole u m w) =
+        let q : worth u m ≡ worth v n = let p = sym (whole-read more w.0 w.1) ∙ e in cc in
+        let x : u ≡ v = ap (λ (r : Number). r.value) q in let y : m ≡ n = ap (λ (r : Number). r.length) q in rw (← x, ← y) w
     by (ends f) = clash (let q = sym (ends_read more f.2 f.1) ∙ e in cc)
     by (long f) = clash (let q = sym (long-read more f.1) ∙ e in cc)
     by (padded f) = clash (let q = sym (padded-read more f.4 f.2 f.3).2 ∙ e in cc)

@@ -6,12 +6,12 @@ use mathlib.Core.Bool.{Bool, true, false}
 use mathlib.Core.List.{List, [], ◌∷◌, ◌++◌}
 use native.Mathlib.Nat.{le_of_suc-le-suc, pow-succ'}
 use native.Mathlib.Omega.{arith}
+use Rattle.std.specs.Prelude.{Ok}
 use lib.ListN.{length, take}
 use lib.Dec.{ltb}
 use borrow.Author.Tests.{lt-ltb, le-ltb, ltb-true, ltb-false}
 use Rattle.plain.specs.Pick.{pick}
-use Rattle.numbers.specs.declared.Number.TheVariants.{Value}
-use Rattle.numbers.specs.Number.{number}
+use Rattle.numbers.specs.Number.{number, worth}
 use Rattle.numbers.specs.Form.{Form, Whole}
 use Rattle.numbers.specs.Shortest.{Bytes, shortest}
 use Rattle.numbers.specs.Form.Form.{sole, first}
@@ -46,7 +46,7 @@ form-shortest (suc more) p (first {b = b} {v = v} l z r) k =
 
 -- a value read in shortest form is the only one with that value
 pub only-form : (more : ℕ) (s t : List ℕ) (v n m : ℕ) → Bytes s → Bytes t →
-    number more s ≡ Value v n → number more t ≡ Value v m → (n ≡ m) × (take n s ≡ take m t)
+    number more s ≡ Ok (worth v n) → number more t ≡ Ok (worth v m) → (n ≡ m) × (take n s ≡ take m t)
 only-form more s t v n m p q e f =
     let a = read_whole more s v n e in let b = read_whole more t v m f in
     let x = form-shortest more p a.0 a.1 in let y = form-shortest more q b.0 b.1 in

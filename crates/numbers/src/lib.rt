@@ -1,124 +1,103 @@
 // Numbers in groups of seven bits, lowest group first.
 #![tactic(auto)]
 
-ghost use Rattle.std.specs.Prelude.{◌≡◌, ℕ, ◌+◌, ◌≤◌, List, length};
+ghost use Rattle.std.specs.Prelude.{◌≡◌, ℕ, ◌+◌, ◌^◌, ◌<◌, ◌≤◌, List, length};
 ghost use Rattle.std.proofs.lemmas.List.Edits.{sets};
-ghost use Rattle.numbers.specs.Number.{before, number, record_more};
+ghost use Rattle.numbers.specs.Number.{before, joined, number, record_more, worth};
 ghost use Rattle.numbers.specs.Shortest.{shortest};
 ghost use Rattle.numbers.specs.Inner.Word.{word_more};
 
-// A number with the bytes it takes; or its fault. A padded number has its value and length all the same.
-#[derive(Clone, Copy)]
-pub enum Number {
-    Value { value: u64, length: usize },
+// A number with the bytes it takes.
+#[derive(Clone, Copy, Debug, PartialEq, Eq)]
+pub struct Number {
+    pub value: u64,
+    pub length: usize,
+}
+
+// Why there is none. A padded one has its value and length all the same.
+#[derive(Clone, Copy, Debug, PartialEq, Eq)]
+pub enum Fault {
     Ended,
     TooLong,
-    NotShortest { value: u64, length: usize },
+    NotShortest(Number),
 }
 
 // A record's number has at most this many bytes after its first.
 const RECORD_MORE: u64 = 3;
 
-// A byte as a word.
-fn wide(x: u8) -> u64
-    ensures { result ≡ x }
+// A byte that is a number by itself.
+fn one_byte(byte: u8) -> Number
+    ensures { result ≡ worth byte 1 }
 {
-    x as u64
+    Number {
+        value: u64::from(byte),
+        length: 1,
+    }
 }
 
-// A byte with its top bit set, before a rest of at most eight bytes that was read.
-fn before(byte: u64, rest: Number) -> Number
+// A byte with its top bit set, before a number of at most eight bytes.
+fn joined(byte: u8, rest: Number) -> Number
+    requires { (rest.value < 128 ^ 8) × (rest.length ≤ 8) }
+    ensures { result ≡ joined byte rest }
+{
+    Number {
+        value: u64::from(byte % 128) + 128 * rest.value,
+        length: rest.length + 1,
+    }
+}
+
+// The same before a rest of at most eight bytes that was read.
+#[tactic(auto, using(crate::proofs::Cases::before_none, crate::proofs::Cases::before_some), unfolding(crate::specs::Number::before))]
+fn before(byte: u8, rest: Result<Number, Fault>) -> Result<Number, Fault>
     requires { (more : ℕ) × (s : List ℕ) × (rest ≡ number more s) × (more ≤ 7) }
     ensures { result ≡ before byte rest }
 {
     match rest {
-        Number::Value { value, length } => {
-            if value == 0 {
-                Number::NotShortest {
-                    value: byte % 128,
-                    length: length + 1,
-                }
-            } else {
-                Number::Value {
-                    value: byte % 128 + 128 * value,
-                    length: length + 1,
-                }
-            }
-        }
-        Number::NotShortest { value, length } => Number::NotShortest {
-            value: byte % 128 + 128 * value,
-            length: length + 1,
-        },
-        Number::Ended | Number::TooLong => rest,
+        Ok(number) if number.value == 0 => Err(Fault::NotShortest(joined(byte, number))),
+        Ok(number) => Ok(joined(byte, number)),
+        Err(Fault::NotShortest(number)) => Err(Fault::NotShortest(joined(byte, number))),
+        Err(fault) => Err(fault),
     }
-}
-
-// A number of one byte; too long where more are needed.
-fn one_byte(rest: &[u8]) -> Number
-    ensures { result ≡ number 0 rest.now }
-{
-    if rest.len() == 0 {
-        return Number::Ended;
-    }
-    let byte = wide(rest[0]);
-    if byte < 128 {
-        return Number::Value {
-            value: byte,
-            length: 1,
-        };
-    }
-    Number::TooLong
 }
 
 // The number at the front of rest, of at most more bytes after its first.
-pub fn number_within(rest: &[u8], more: u64) -> Number
+#[tactic(auto, using(crate::proofs::Cases::none, crate::proofs::Cases::last, crate::proofs::Cases::not_last, crate::proofs::Cases::follows))]
+pub fn number_within(rest: &[u8], more: u64) -> Result<Number, Fault>
     requires { more ≤ 8 }
     ensures { result ≡ number more rest.now }
 {
-    let first = one_byte(rest);
-    let Number::TooLong = first else {
-        return first;
-    };
-    if more == 0 {
-        return first;
+    match rest {
+        [] => Err(Fault::Ended),
+        [byte @ 0..=127, ..] => Ok(one_byte(*byte)),
+        [byte, rest @ ..] if 0 < more => before(*byte, number_within(rest, more - 1)),
+        _ => Err(Fault::TooLong),
     }
-    before(wide(rest[0]), number_within(&rest[1..], more - 1))
 }
 
-// A record's number of more than one byte. Nearly all of these are two or three, and more numbers follow, so that is tried first.
-fn read_long(rest: &[u8]) -> Number
-    requires { number 0 rest.now ≡ Number.TooLong }
+// A record's number that is mostly of two bytes or three: more numbers follow, so these are tried first.
+#[tactic(auto, using(crate::proofs::Cases::two_bytes, crate::proofs::Cases::three_bytes))]
+fn read_long(rest: &[u8]) -> Result<Number, Fault>
     ensures { result ≡ number record_more rest.now }
 {
-    if 2 < rest.len() {
-        let first = wide(rest[0]);
-        let second = wide(rest[1]);
-        if 0 < second && second < 128 {
-            return Number::Value {
-                value: first % 128 + 128 * second,
-                length: 2,
-            };
-        }
-        let third = wide(rest[2]);
-        if 128 <= second && 0 < third && third < 128 {
-            return Number::Value {
-                value: first % 128 + 128 * (second % 128 + 128 * third),
-                length: 3,
-            };
-        }
+    match *rest {
+        [first @ 128..=255, second @ 1..=127, ..] => Ok(joined(first, one_byte(second))),
+        [first @ 128..=255, second @ 128..=255, third @ 1..=127, ..] => Ok(joined(
+            first,
+            joined(second, one_byte(third)),
+        )),
+        _ => number_within(rest, RECORD_MORE),
     }
-    number_within(rest, RECORD_MORE)
 }
 
 // A record's number at the front of rest. Nearly all are one byte, so that is tried first, in a function that is small enough to be inlined.
-pub fn read_number(rest: &[u8]) -> Number
+#[tactic(auto, using(crate::proofs::Cases::last))]
+pub fn read_number(rest: &[u8]) -> Result<Number, Fault>
     ensures { result ≡ number record_more rest.now }
 {
-    let first = one_byte(rest);
-    let Number::TooLong = first else {
-        return first;
-    };
-    read_long(rest)
+    match *rest {
+        [byte @ 0..=127, ..] => Ok(one_byte(byte)),
+        _ => read_long(rest),
+    }
 }
 
 // How many bytes a word takes in shortest form.
@@ -127,8 +106,9 @@ pub fn length_of(value: u64) -> usize
 {
     let mut rest = value;
     let mut length: usize = 1;
+    // A `while`: `successors(..).count()` over the same quotients is no plainer.
     while 128 <= rest {
-        rest = rest / 128;
+        rest /= 128;
         length += 1;
     }
     length
@@ -142,9 +122,10 @@ pub fn write_number(bytes: &mut [u8], from: usize, value: u64) -> usize
 {
     let mut left = value;
     let mut at = from;
+    // A `while`: only the quotient tells how many bytes are to come, so a `for` over the places would need `length_of` first, which is no plainer.
     while 128 <= left {
         bytes[at] = (128 + left % 128) as u8;
-        left = left / 128;
+        left /= 128;
         at += 1;
     }
     bytes[at] = (left % 128) as u8;
