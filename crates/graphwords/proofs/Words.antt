@@ -9,10 +9,13 @@ use native.Mathlib.Nat.{add-zero}
 use native.Mathlib.Omega.{arith}
 use lib.ListN.{length, drop, length-drop, drop_of_length-le}
 use lib.Seq.{drop-cons, drop-drop}
+use Rattle.std.specs.List.{prefix_len}
+use Rattle.std.proofs.lemmas.List.{get_or-drop}
+use Rattle.std.proofs.lemmas.List.Sums.{prefix_len-le-length, prefix_len_stops}
 use Rattle.plain.specs.At.{at}
 use Rattle.plain.proofs.Lists.{lt-or-ge}
 use Rattle.graphwords.specs.Words.{is_parting, Word, letters_of, words_from, words_at}
-use Rattle.graphwords.specs.Inner.Found.{past_word}
+use Rattle.graphwords.specs.Inner.Found.{Begins, past_word}
 
 -- a byte that parts, and one that does not
 pub letters-parted : (b : ℕ) (s : List ℕ) → is_parting b ≡ true → letters_of (b ∷ s) ≡ []
@@ -47,6 +50,21 @@ past-letters (b ∷ s) place = by (past-letters s (place + 1)) (is_parting b) re
     by rest true e = rw (letters-parted b s e, add-zero place) (words-parted b place s true e ∙ sym (words-parted b place s false e))
     by rest false e = let q : place + 1 + length (letters_of s) ≡ place + suc (length (letters_of s)) = omega arith in
         rw (letters-more b s e) (words_inside b place s e ∙ rest ∙ ap (λ (k : ℕ). words_from false k (drop (length (letters_of s)) s)) q)
+
+-- over partings they are the same
+past-partings : (s : List ℕ) (place : ℕ) → words_from false place s ≡ words_from false (place + prefix_len is_parting s) (drop (prefix_len is_parting s) s)
+unfolding words_from
+past-partings [] place = refl
+past-partings (b ∷ s) place = by (past-partings s (place + 1)) (is_parting b) refl
+  where
+    by : words_from false (place + 1) s ≡ words_from false (place + 1 + prefix_len is_parting s) (drop (prefix_len is_parting s) s) →
+        (t : Bool) → is_parting b ≡ t → words_from false place (b ∷ s) ≡ words_from false (place + prefix_len is_parting (b ∷ s)) (drop (prefix_len is_parting (b ∷ s)) (b ∷ s))
+    by rest true e =
+        let n = prefix_len is_parting s in
+        let one : 1 + n ≡ suc n = omega arith in
+        let q : place + 1 + n ≡ place + suc n = omega arith in
+        words-parted b place s false e ∙ rest ∙ rw (e, one) (ap (λ (k : ℕ). words_from false k (drop n s)) q)
+    by rest false e = let none : prefix_len is_parting (b ∷ s) ≡ 0 = rw e refl in rw (none, add-zero place) refl
 
 -- a word has no more letters than the text has bytes left
 letters-fewer : (s : List ℕ) → length (letters_of s) ≤ length s
@@ -105,3 +123,14 @@ first_by text (suc k) from h = by (first_by text k (from + 1) (omega arith)) (lt
 
 pub first_word : (text : List ℕ) (from : ℕ) → First text (words_at text from)
 first_word text from = first_by text (length text) from (omega arith)
+
+-- the first of them, from a place on: after the partings that stand there
+pub begins : (text : List ℕ) (from n : ℕ) → from ≤ length text → n ≡ prefix_len is_parting (drop from text) → Begins text from (from + n)
+begins text from n h e =
+    let s = drop from text in
+    let within : n ≤ length s = rw e (prefix_len-le-length is_parting s) in
+    record {
+      inside = omega (arith, within, length-drop from text);
+      same = past-partings s from ∙ rw (← e, drop-drop n from text) refl;
+      first = λ l. ap is_parting (sym (get_or-drop from text n 0)) ∙ rw e (prefix_len_stops is_parting s 0 (rw (← e) (omega (arith, l, length-drop from text))));
+    }

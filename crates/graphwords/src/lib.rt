@@ -2,6 +2,7 @@
 #![tactic(auto)]
 
 ghost use Rattle.std.specs.Prelude.{◌≡◌, true, ◌+◌, ◌-◌, ◌*◌, ◌≤◌, length};
+ghost use Rattle.std.specs.List.{prefix_len};
 ghost use Rattle.graphwords.specs.Words.{is_parting, words_at};
 ghost use Rattle.graphwords.specs.Decimal.{is_digit};
 ghost use Rattle.graphwords.specs.Inner.Found.{cap, capped, found_in, Begins};
@@ -9,30 +10,32 @@ ghost use Rattle.graphwords.specs.Inner.Found.{cap, capped, found_in, Begins};
 // Past every limit of a text: numbers are counted no further.
 const CAP: u64 = 65_536;
 
-// The first word from a place on.
-#[derive(Clone, Copy)]
-pub enum Found {
+// A word that is a number, and the place past it.
+#[derive(Clone, Copy, Debug, PartialEq, Eq)]
+pub struct Number {
+    pub value: u64,
+    pub place: usize,
+    pub end: usize,
+}
+
+// What stands where a number was looked for.
+#[derive(Clone, Copy, Debug, PartialEq, Eq)]
+pub enum Fault {
     Ended,
-    Other {
-        place: usize,
-    },
-    Number {
-        value: u64,
-        place: usize,
-        end: usize,
-    },
+    Other { place: usize },
 }
 
 fn is_parting(byte: u8) -> bool
     ensures { result ≡ is_parting byte }
 {
-    byte == 32 || byte == 10 || byte == 13
+    matches!(byte, b' ' | b'\n' | b'\r')
 }
 
-fn is_digit(byte: u8) -> bool
-    ensures { result ≡ is_digit byte }
+// How many partings a text begins with.
+fn partings(text: &[u8]) -> usize
+    ensures { result ≡ prefix_len is_parting text.now }
 {
-    48 <= byte && byte <= 57
+    text.iter().take_while(|byte| is_parting(**byte)).count()
 }
 
 // Where the first word from a place on begins: the text's length where there is none.
@@ -40,14 +43,7 @@ pub fn word_at(text: &[u8], from: usize) -> usize
     requires { from ≤ length text.now }
     ensures { Begins text.now from result }
 {
-    let mut at = from;
-    while at < text.len() {
-        if !is_parting(text[at]) {
-            return at;
-        }
-        at += 1;
-    }
-    at
+    from + partings(&text[from..])
 }
 
 // A number with one digit more.
@@ -55,31 +51,35 @@ fn with_digit(value: u64, digit: u8) -> u64
     requires { (value ≤ cap) × (is_digit digit ≡ true) }
     ensures { result ≡ capped (10 * value + (digit - 48)) }
 {
-    let more = 10 * value + (digit - 48) as u64;
-    if more < CAP { more } else { CAP }
+    (10 * value + u64::from(digit - b'0')).min(CAP)
 }
 
 // The first word from a place on, read to its end.
-pub fn read_word(text: &[u8], from: usize) -> Found
+pub fn read_word(text: &[u8], from: usize) -> Result<Number, Fault>
     requires { from ≤ length text.now }
     ensures { result ≡ found_in (words_at text.now from) }
 {
     let place = word_at(text, from);
     if place == text.len() {
-        return Found::Ended;
+        return Err(Fault::Ended);
     }
-    let mut value: u64 = 0;
-    let mut end = place;
-    while end < text.len() {
-        let byte = text[end];
-        if is_parting(byte) {
-            return Found::Number { value, place, end };
+    let mut value = 0;
+    for (passed, byte) in text[place..].iter().enumerate() {
+        if is_parting(*byte) {
+            return Ok(Number {
+                value,
+                place,
+                end: place + passed,
+            });
         }
-        if !is_digit(byte) {
-            return Found::Other { place };
+        if !byte.is_ascii_digit() {
+            return Err(Fault::Other { place });
         }
-        value = with_digit(value, byte);
-        end += 1;
+        value = with_digit(value, *byte);
     }
-    Found::Number { value, place, end }
+    Ok(Number {
+        value,
+        place,
+        end: text.len(),
+    })
 }

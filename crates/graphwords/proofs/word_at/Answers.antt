@@ -1,21 +1,18 @@
 -- `graphwords::word_at` meets its contract: the words from the place that was reached are those from the first place on, since only partings were passed.
-use mathlib.Core.Path.{refl, sym, ◌∙◌}
-use native.Mathlib.Omega.{arith}
-use Rattle.graphwords.proofs.Words.{words-on}
+use Rattle.std.proofs.Common.{◌+◌, ap, ◌∙◌, arith}
+use Rattle.std.specs.List.{prefix_len}
+use Rattle.plain.proofs.Lists.{part-from}
+use Rattle.graphwords.specs.Words.{is_parting}
+use Rattle.graphwords.specs.Inner.Found.{Begins}
+use Rattle.graphwords.proofs.Words.{begins}
 use Rattle.graphwords.proofs.word_at.Goals as goal
+use Rattle.graphwords.proofs.word_at.Goals.{After-partings}
 
-pub loop-at-init : goal.loop-at-init
-loop-at-init c = (c.requires, refl)
+reached : (c : After-partings) → Begins c.args.text.now c.args.from (c.args.from + c.partings.result)
+reached c = begins _ _ _ c.requires (c.partings.ensures ∙ ap (prefix_len is_parting) (part-from c.args.from c.args.text.now))
 
-pub returns-then-not-is_parting : goal.returns-then-not-is_parting
-returns-then-not-is_parting c = let l = c.loop-at in record {
-  inside = l.invariant.0;
-  same = l.invariant.1;
-  first = λ h. sym c.is_parting.ensures ∙ c.if-not-is_parting.true;
-}
-
-pub loop-at-preserved : goal.loop-at-preserved
-loop-at-preserved c = (omega arith, c.loop-at.invariant.1 ∙ words-on _ _ c.loop-at-test.true (sym c.is_parting.ensures ∙ c.if-not-is_parting.false))
+pub overflow_add-result : goal.overflow_add-result
+overflow_add-result c = omega (arith, (reached c).inside)
 
 pub returns : goal.returns
-returns c = record { inside = c.loop-at.invariant.0; same = c.loop-at.invariant.1; first = λ h. absurd (omega arith) }
+returns c = reached c

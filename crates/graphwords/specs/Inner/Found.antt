@@ -1,9 +1,10 @@
 -- What the code keeps of a word.
-use Rattle.std.specs.Prelude.{ℕ, ◌+◌, ◌≤◌, ◌<◌, ◌≡◌, false, List, [], ◌∷◌, ltb, length}
+use Rattle.std.specs.Prelude.{ℕ, ◌+◌, ◌≤◌, ◌<◌, ◌≡◌, false, List, [], ◌∷◌, Result, Ok, Err, ltb, length}
 use Rattle.plain.specs.Pick.{pick}
 use Rattle.plain.specs.At.{at}
-use Rattle.graphwords.specs.declared.Found.{Found}
-use Rattle.graphwords.specs.declared.Found.TheVariants.{Ended, Other, Number}
+use Rattle.graphwords.specs.declared.Number.{Number}
+use Rattle.graphwords.specs.declared.Fault.{Fault}
+use Rattle.graphwords.specs.declared.Fault.TheVariants.{Ended, Other}
 use Rattle.graphwords.specs.Words.{is_parting, Word, words_at}
 use Rattle.graphwords.specs.Decimal.{is_decimal, decimal_of}
 
@@ -20,9 +21,12 @@ abbrev pub past_word : Word → ℕ
 past_word w = w.place + length w.letters
 
 -- the first of the words that are left
-unfoldable pub found_in : List Word → Found
-found_in [] = Ended
-found_in (w ∷ words) = pick (is_decimal w.letters) (Number (capped (decimal_of w.letters)) w.place (past_word w)) (Other w.place)
+unfoldable pub found_in : List Word → Result Number Fault
+found_in [] = Err Ended
+found_in (w ∷ words) =
+    pick (is_decimal w.letters)
+    (Ok (record { value = capped (decimal_of w.letters); place = w.place; end = past_word w }))
+    (Err (Other w.place))
 
 -- where the first word from a place on begins: from there on the words are the same, and there the text ends or has no parting
 pub record Begins (text : List ℕ) (from place : ℕ) : Type 0 where
