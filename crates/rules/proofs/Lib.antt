@@ -1,4 +1,3 @@
-pub mod Places
 pub mod Turns
 pub mod Rests
 pub mod Windows

@@ -3,7 +3,6 @@ use mathlib.Core.Path.{◌≡◌, sym, ◌∙◌}
 use mathlib.Core.Bool.{Bool, true, false}
 use Prim.Native.Nat.{ℕ, ◌+◌, ◌≤◌, ◌<◌, zero-le}
 use native.Mathlib.Omega.{arith}
-use lib.Dec.{eqb}
 use Rattle.plain.specs.Tests.{all_to}
 use Rattle.plain.proofs.Tests.{true-both, all_to-none, all_to-more, all_to-false}
 
@@ -20,10 +19,3 @@ tried-more {k = k} {f = f} t l e = record { within = omega arith; held = all_to-
 
 pub tried-fails : {n k : ℕ} {f : ℕ → Bool} → Tried n f k → k < n → f k ≡ false → false ≡ all_to n f
 tried-fails {n} {k} {f} t l e = sym (all_to-false n f k l e)
-
-pub tried-all : {n k : ℕ} {f : ℕ → Bool} → Tried n f k → n ≤ k → true ≡ all_to n f
-tried-all {n} {k} t l = let e : k ≡ n = omega arith in sym (rw e at t.held)
-
--- two numbers compared by others that are equal to them
-pub compared : {a b x y : ℕ} → a ≡ x → b ≡ y → eqb a b ≡ eqb x y
-compared p q = rw (p, q)

@@ -38,15 +38,14 @@ module _ {own w : List ℕ} {v : ℕ} where
   met-none = record { within = zero-le; time-is = sym (sum_to-none _); share-is = sym (sum_to-none _) }
 
   module _ {j time share : ℕ} (met : Met own w v j time share) where
-    pub met-more : (low : j < at own 1) (through : Bool) (from long next sum : ℕ) → from ≡ offset_at own v → long ≡ deadline_at own v → next ≡ numerator_at own j
-        → through ≡ (leb from time && leb (time + next) (from + long)) → sum ≡ share + one through * numerator_at w j
-        → Met own w v (j + 1) (time + next) sum
+    pub met-more : (low : j < at own 1) (through : Bool) (sum : ℕ) → through ≡ (leb (offset_at own v) time && leb (time + numerator_at own j) (offset_at own v + deadline_at own v))
+        → sum ≡ share + one through * numerator_at w j → Met own w v (j + 1) (time + numerator_at own j) sum
     unfolding runs sum_to
-    met-more low through from long next sum f g h t e =
+    met-more low through sum t e =
         let times = sum_to-more j (numerator_at own) in
         let shares = sum_to-more j (added own (numerator_at w) v) in
         let b = met.time-is in
-        let r : through ≡ (leb (offset_at own v) (begins_at own j) && leb (begins_at own (suc j)) (offset_at own v + deadline_at own v)) = rw (f, g, h, b) at t in
+        let r : through ≡ (leb (offset_at own v) (begins_at own j) && leb (begins_at own (suc j)) (offset_at own v + deadline_at own v)) = rw b at t in
         record { within = omega arith; time-is = omega arith; share-is = (let i = met.share-is in rw (e, i, shares, r)) }
 
     -- what is added fits

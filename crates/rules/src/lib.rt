@@ -2,49 +2,87 @@
 // contract, what a rule doesn't look at is left empty in `held_by`.
 #![tactic(auto)]
 
-ghost use Rattle.std.specs.Prelude.{◌≡◌, true, ◌&&◌, List, [], ℕ, ◌+◌, ◌*◌, ◌^◌, ◌≤◌, ◌<◌, eqb, leb};
+ghost use Rattle.std.specs.Prelude.{◌≡◌, true, ◌&&◌, List, [], ℕ, ◌+◌, ◌*◌, ◌^◌, ◌≤◌, ◌<◌, leb, length};
 ghost use Rattle.plain.specs.At.{at};
-ghost use Rattle.plain.specs.Tests.{both};
-ghost use Rattle.tables.specs.Limits.{period_max, run_max, work_max, over_max};
+ghost use Rattle.tables.specs.Limits.{period_max, count_max, run_max, work_max, over_max};
 ghost use Rattle.sets.specs.Greatest.{greatest};
-ghost use Rattle.shares.specs.Words.{threads_at, length_at, numerator_at, offset_at, deadline_at};
+ghost use Rattle.shares.specs.Words.{threads_at, length_at, numerator_at, offset_at, deadline_at, density_at};
 ghost use Rattle.shares.specs.Inner.Asked.{numerator_max};
 ghost use Rattle.rules.specs.Rules.{over_fits, same_cut, shared_out, summed, followed, halved, thinned, rounded};
-ghost use Rattle.rules.specs.Inner.Own.{segment_word, node_word, windowed, held_by, PlanIn, SharedIn};
+ghost use Rattle.rules.specs.Inner.Own.{windowed, held_by, PlanIn, SharedIn};
 
 use tables::TaskTable;
 
 // The greatest Q of specs/: twice the work of 64 nodes that all run as long as they may.
 const OVER_MAX: u64 = 2 * TaskTable::COUNT_MAX * (TaskTable::EXECUTION_MAX + TaskTable::COST_MAX);
 
-// Which of a segment's three words it is.
-const THREADS: usize = 0;
-
-const LENGTH: usize = 1;
-
-const NUMERATOR: usize = 2;
-
-// Which of a node's.
-const OFFSET: usize = 0;
-
-const DEADLINE: usize = 1;
-
-const DENSITY: usize = 2;
-
-// A word of segment j.
-fn segment_word(words: &[u64], j: usize, k: usize) -> u64
-    requires { PlanIn words.now × (j < at words.now 1) × (k < 3) }
-    ensures { result ≡ segment_word words.now j k }
-{
-    words[3 + k + 3 * j]
+// A plan's words, as they are lent: at most 64 segments and 64 nodes, with room for all. The public rules take bare words: docs/CONTRACTS.md names
+// them, so their parameters may not narrow.
+#[derive(Clone, Copy)]
+struct Plan<'a> {
+    words: &'a [u64],
+    ghost few_segments: { at words.now 1 ≤ count_max },
+    ghost few_nodes: { at words.now 2 ≤ count_max },
+    ghost room: { 3 + 3 * at words.now 1 + 3 * at words.now 2 ≤ length words.now },
 }
 
-// A word of node v, past the segments.
-fn node_word(words: &[u64], v: usize, k: usize) -> u64
-    requires { PlanIn words.now × (v < at words.now 2) × (k < 3) }
-    ensures { result ≡ node_word words.now v k }
-{
-    words[3 + 3 * words[1] as usize + (3 * v + k)]
+#[derive(Clone, Copy)]
+struct Segment {
+    threads: u64,
+    length: u64,
+    numerator: u64,
+}
+
+#[derive(Clone, Copy)]
+struct Node {
+    offset: u64,
+    deadline: u64,
+    density: u64,
+}
+
+impl Plan<'_> {
+    fn over(self) -> u64
+        ensures { result ≡ at self.entry.words.now 0 }
+    {
+        self.words[0]
+    }
+
+    fn segments(self) -> usize
+        ensures { result ≡ at self.entry.words.now 1 }
+    {
+        self.words[1] as usize
+    }
+
+    fn nodes(self) -> usize
+        ensures { result ≡ at self.entry.words.now 2 }
+    {
+        self.words[2] as usize
+    }
+
+    fn segment(self, j: usize) -> Segment
+        requires { j < at self.words.now 1 }
+        ensures { result ≡ record { threads = threads_at self.entry.words.now j; length = length_at self.entry.words.now j; numerator = numerator_at self.entry.words.now j } }
+    {
+        let k = 3 + 3 * j;
+        Segment {
+            threads: self.words[k],
+            length: self.words[k + 1],
+            numerator: self.words[k + 2],
+        }
+    }
+
+    // The nodes stand past the segments.
+    fn node(self, v: usize) -> Node
+        requires { v < at self.words.now 2 }
+        ensures { result ≡ record { offset = offset_at self.entry.words.now v; deadline = deadline_at self.entry.words.now v; density = density_at self.entry.words.now v } }
+    {
+        let k = 3 + 3 * self.segments() + 3 * v;
+        Node {
+            offset: self.words[k],
+            deadline: self.words[k + 1],
+            density: self.words[k + 2],
+        }
+    }
 }
 
 // 1: Q lies in its range.
@@ -52,19 +90,7 @@ pub fn over_fits(plan: &[u64]) -> bool
     requires { PlanIn plan.now }
     ensures { result ≡ over_fits plan.now }
 {
-    let over = plan[0];
-    1 <= over && over <= OVER_MAX
-}
-
-// Whether segment j has the own plan's threads and length.
-fn same_segment(own: &[u64], plan: &[u64], j: usize) -> bool
-    requires { PlanIn own.now × PlanIn plan.now × (j < at own.now 1) × (j < at plan.now 1) }
-    ensures { result ≡ both (eqb (threads_at plan.now j) (threads_at own.now j)) (eqb (length_at plan.now j) (length_at own.now j)) }
-{
-    if segment_word(plan, j, THREADS) != segment_word(own, j, THREADS) {
-        return false;
-    }
-    segment_word(plan, j, LENGTH) == segment_word(own, j, LENGTH)
+    (1..=OVER_MAX).contains(&plan[0])
 }
 
 // 2: the segments are the task's own cut.
@@ -72,16 +98,16 @@ pub fn same_cut(own: &[u64], plan: &[u64]) -> bool
     requires { PlanIn own.now × PlanIn plan.now }
     ensures { result ≡ same_cut (held_by own.now [] [] 0 0) plan.now }
 {
-    if plan[1] != own[1] {
+    let own = Plan { words: own };
+    let plan = Plan { words: plan };
+    if plan.segments() != own.segments() {
         return false;
     }
-    let cut = own[1] as usize;
-    let mut j: usize = 0;
-    while j < cut {
-        if !same_segment(own, plan, j) {
+    for j in 0..own.segments() {
+        let (given, cut) = (plan.segment(j), own.segment(j));
+        if given.threads != cut.threads || given.length != cut.length {
             return false;
         }
-        j += 1;
     }
     true
 }
@@ -91,16 +117,14 @@ pub fn shared_out(plan: &[u64], period: u64) -> bool
     requires { PlanIn plan.now × (period ≤ period_max) × (over_fits plan.now ≡ true) }
     ensures { result ≡ shared_out (held_by [] [] [] period 0) plan.now }
 {
-    let numerators = plan[1] as usize;
-    let mut left = period * plan[0];
-    let mut j: usize = 0;
-    while j < numerators {
-        let numerator = segment_word(plan, j, NUMERATOR);
+    let plan = Plan { words: plan };
+    let mut left = period * plan.over();
+    for j in 0..plan.segments() {
+        let numerator = plan.segment(j).numerator;
         if left < numerator {
             return false;
         }
         left -= numerator;
-        j += 1;
     }
     left == 0
 }
@@ -113,24 +137,21 @@ fn runs_through(from: u64, to: u64, begin: u64, end: u64) -> bool
 }
 
 // What the plan gives the segments that node v runs in. Where it runs is read from the own plan: in stretched time, from its offset to its deadline.
-fn share_of(own: &[u64], plan: &[u64], v: usize) -> u64
-    requires by_index { (P : List ℕ) × (X : List ℕ) × (T : ℕ) × (C : ℕ) × SharedIn own.now plan.now P X T C }
-    requires v_bound { v < at own.now 2 }
-    ensures { result ≡ windowed own.now (numerator_at plan.now) v }
+fn share_of(own: Plan, plan: Plan, v: usize) -> u64
+    requires by_index { (P : List ℕ) × (X : List ℕ) × (T : ℕ) × (C : ℕ) × SharedIn own.words.now plan.words.now P X T C }
+    requires v_bound { v < at own.words.now 2 }
+    ensures { result ≡ windowed own.entry.words.now (numerator_at plan.entry.words.now) v }
 {
-    let from = node_word(own, v, OFFSET);
-    let to = from + node_word(own, v, DEADLINE);
-    let segments = own[1] as usize;
-    let mut time: u64 = 0;
-    let mut share: u64 = 0;
-    let mut j: usize = 0;
-    while j < segments {
-        let end = time + segment_word(own, j, NUMERATOR);
-        if runs_through(from, to, time, end) {
-            share += segment_word(plan, j, NUMERATOR);
+    let node = own.node(v);
+    let to = node.offset + node.deadline;
+    let mut begin = 0;
+    let mut share = 0;
+    for j in 0..own.segments() {
+        let end = begin + own.segment(j).numerator;
+        if runs_through(node.offset, to, begin, end) {
+            share += plan.segment(j).numerator;
         }
-        time = end;
-        j += 1;
+        begin = end;
     }
     share
 }
@@ -140,31 +161,28 @@ pub fn summed(own: &[u64], plan: &[u64]) -> bool
     requires { (P : List ℕ) × (X : List ℕ) × (T : ℕ) × (C : ℕ) × SharedIn own.now plan.now P X T C }
     ensures { result ≡ summed (held_by own.now [] [] 0 0) plan.now }
 {
-    let deadlines = own[2] as usize;
-    let mut v: usize = 0;
-    while v < deadlines {
-        if node_word(plan, v, DEADLINE) != share_of(own, plan, v) {
+    let own = Plan { words: own };
+    let plan = Plan { words: plan };
+    for v in 0..own.nodes() {
+        if plan.node(v).deadline != share_of(own, plan, v) {
             return false;
         }
-        v += 1;
     }
     true
 }
 
-// The greatest offset plus deadline of a node's parents, 0 without parents. The parents are met by trailing zeros.
-fn parents_end(plan: &[u64], set: u64) -> u64
-    requires { PlanIn plan.now × ((k : ℕ) → at plan.now k < 2 ^ 63) × (set < 2 ^ at plan.now 2) }
-    ensures { result ≡ greatest (at plan.now 2) set (λ p. offset_at plan.now p + deadline_at plan.now p) }
+// The greatest offset plus deadline of a node's parents, 0 without parents. The parents are met by trailing zeros: no `for`, the library has none over a
+// word's bits.
+fn parents_end(plan: Plan, set: u64) -> u64
+    requires { ((k : ℕ) → at plan.words.now k < 2 ^ 63) × (set < 2 ^ at plan.words.now 2) }
+    ensures { result ≡ greatest (at plan.entry.words.now 2) set (λ p. offset_at plan.entry.words.now p + deadline_at plan.entry.words.now p) }
 {
     let mut latest: u64 = 0;
     let mut left = set;
     while left != 0 {
-        let p = u64::trailing_zeros(left) as usize;
-        let end = node_word(plan, p, OFFSET) + node_word(plan, p, DEADLINE);
-        if latest < end {
-            latest = end;
-        }
-        left = left & (left - 1);
+        let parent = plan.node(left.trailing_zeros() as usize);
+        latest = latest.max(parent.offset + parent.deadline);
+        left &= left - 1;
     }
     latest
 }
@@ -174,13 +192,12 @@ pub fn followed(own: &[u64], plan: &[u64], parents: &[u64; 64]) -> bool
     requires { (X : List ℕ) × (T : ℕ) × (C : ℕ) × SharedIn own.now plan.now parents.now X T C }
     ensures { result ≡ followed (held_by own.now parents.now [] 0 0) plan.now }
 {
-    let offsets = own[2] as usize;
-    let mut v: usize = 0;
-    while v < offsets {
-        if node_word(plan, v, OFFSET) != parents_end(plan, parents[v]) {
+    let own = Plan { words: own };
+    let plan = Plan { words: plan };
+    for v in 0..own.nodes() {
+        if plan.node(v).offset != parents_end(plan, parents[v]) {
             return false;
         }
-        v += 1;
     }
     true
 }
@@ -198,14 +215,12 @@ pub fn halved(own: &[u64], plan: &[u64], executions: &[u64; 64]) -> bool
     requires { (P : List ℕ) × (T : ℕ) × (C : ℕ) × SharedIn own.now plan.now P executions.now T C }
     ensures { result ≡ halved (held_by own.now [] executions.now 0 0) plan.now }
 {
-    let over = plan[0];
-    let nodes = own[2] as usize;
-    let mut v: usize = 0;
-    while v < nodes {
-        if !is_half(executions[v], over, node_word(plan, v, DEADLINE)) {
+    let own = Plan { words: own };
+    let plan = Plan { words: plan };
+    for v in 0..own.nodes() {
+        if !is_half(executions[v], plan.over(), plan.node(v).deadline) {
             return false;
         }
-        v += 1;
     }
     true
 }
@@ -225,15 +240,18 @@ pub fn thinned(plan: &[u64], period: u64, work: u64) -> bool
     requires { (own : List ℕ) × (P : List ℕ) × (X : List ℕ) × SharedIn own plan.now P X period work }
     ensures { result ≡ thinned (held_by [] [] [] period work) plan.now }
 {
-    let whole = period * plan[0];
-    let pieces = plan[1] as usize;
-    let mut j: usize = 0;
-    while j < pieces {
-        let piece = segment_word(plan, j, THREADS) * segment_word(plan, j, LENGTH);
-        if !is_thin(piece, whole, work, segment_word(plan, j, NUMERATOR)) {
+    let plan = Plan { words: plan };
+    let whole = period * plan.over();
+    for j in 0..plan.segments() {
+        let segment = plan.segment(j);
+        if !is_thin(
+            segment.threads * segment.length,
+            whole,
+            work,
+            segment.numerator,
+        ) {
             return false;
         }
-        j += 1;
     }
     true
 }
@@ -244,15 +262,13 @@ pub fn rounded(own: &[u64], plan: &[u64], executions: &[u64; 64]) -> bool
     requires plan_value { summed (held_by own.now [] [] 0 0) plan.now ≡ true }
     ensures { result ≡ rounded (held_by own.now [] executions.now 0 0) plan.now }
 {
-    let over = plan[0];
-    let densities = own[2] as usize;
-    let mut v: usize = 0;
-    while v < densities {
-        let density = shares::millionths(executions[v], over, node_word(plan, v, DEADLINE));
-        if node_word(plan, v, DENSITY) != density {
+    let own = Plan { words: own };
+    let plan = Plan { words: plan };
+    for v in 0..own.nodes() {
+        let node = plan.node(v);
+        if node.density != shares::millionths(executions[v], plan.over(), node.deadline) {
             return false;
         }
-        v += 1;
     }
     true
 }

@@ -1,6 +1,6 @@
 use mathlib.Core.Bool.{Bool}
 use mathlib.Core.List.{List}
-use Prim.Native.Nat.{ℕ, ◌*◌, ◌-◌}
+use Prim.Native.Nat.{ℕ, ◌*◌}
 use lib.Dec.{leb}
 use Rattle.plain.specs.At.{at}
 use Rattle.shares.specs.Words.{deadline_at}
@@ -12,7 +12,4 @@ abbrev pub passes : (plan X : List ℕ) → ℕ → Bool
 passes plan X v = leb (at X v * at plan 0) (2 * deadline_at plan v)
 
 abbrev pub invariant-loop-v : goal.invariant-loop-v
-invariant-loop-v l = Tried (at l.own 2) (passes l.plan l.executions) l.v
-
-abbrev pub decreases-loop-v : goal.decreases-loop-v
-decreases-loop-v l = at l.own 2 - l.v
+invariant-loop-v l = Tried (at l.fn.own 2) (passes l.fn.plan l.fn.executions) l.v

@@ -1,6 +1,6 @@
 use mathlib.Core.Bool.{Bool}
 use mathlib.Core.List.{List}
-use Prim.Native.Nat.{ℕ, ◌-◌}
+use Prim.Native.Nat.{ℕ}
 use lib.Dec.{eqb}
 use Rattle.plain.specs.At.{at}
 use Rattle.plain.specs.Tests.{both}
@@ -13,7 +13,4 @@ abbrev pub passes : (own plan : List ℕ) → ℕ → Bool
 passes own plan j = both (eqb (threads_at plan j) (threads_at own j)) (eqb (length_at plan j) (length_at own j))
 
 abbrev pub invariant-loop-j : goal.invariant-loop-j
-invariant-loop-j l = Tried (at l.own 1) (passes l.own l.plan) l.j
-
-abbrev pub decreases-loop-j : goal.decreases-loop-j
-decreases-loop-j l = at l.own 1 - l.j
+invariant-loop-j l = Tried (at l.fn.own 1) (passes l.fn.own l.fn.plan) l.j

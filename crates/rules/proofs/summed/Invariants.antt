@@ -1,6 +1,6 @@
 use mathlib.Core.Bool.{Bool}
 use mathlib.Core.List.{List}
-use Prim.Native.Nat.{ℕ, ◌-◌}
+use Prim.Native.Nat.{ℕ}
 use lib.Dec.{eqb}
 use Rattle.plain.specs.At.{at}
 use Rattle.shares.specs.Words.{numerator_at, deadline_at}
@@ -13,7 +13,4 @@ abbrev pub passes : (own plan : List ℕ) → ℕ → Bool
 passes own plan v = eqb (deadline_at plan v) (windowed own (numerator_at plan) v)
 
 abbrev pub invariant-loop-v : goal.invariant-loop-v
-invariant-loop-v l = Tried (at l.own 2) (passes l.own l.plan) l.v
-
-abbrev pub decreases-loop-v : goal.decreases-loop-v
-decreases-loop-v l = at l.own 2 - l.v
+invariant-loop-v l = Tried (at l.fn.own 2) (passes l.fn.own l.fn.plan) l.v

@@ -1,24 +1,13 @@
 -- What the functions are lent in place of the task's cut: the words of its own plan.
-use Rattle.std.specs.Prelude.{◌≡◌, true, List, ℕ, zero, suc, ◌+◌, ◌*◌, ◌^◌, ◌≤◌, ◌<◌, length}
+use Rattle.std.specs.Prelude.{◌≡◌, true, List, ℕ, suc, ◌+◌, ◌*◌, ◌^◌, ◌≤◌, ◌<◌, length}
 use Rattle.plain.specs.At.{at}
 use Rattle.plain.specs.Sums.{sum_to}
 use Rattle.tables.specs.Limits.{period_max, count_max, run_max, work_max}
 use Rattle.ways.specs.Inner.Tidy.{Tidy}
 use Rattle.segments.specs.Running.{runs}
 use Rattle.shares.specs.Inner.Asked.{numerator_max}
-use Rattle.shares.specs.Words.{threads_at, length_at, numerator_at, offset_at, deadline_at, density_at}
+use Rattle.shares.specs.Words.{threads_at, length_at, numerator_at, offset_at, deadline_at}
 use Rattle.rules.specs.Rules.{Held, over_fits, same_cut, shared_out}
-
--- the three words of segment j, and of node v
-abbrev pub segment_word : (w : List ℕ) (j k : ℕ) → ℕ
-segment_word w j zero = threads_at w j
-segment_word w j (suc zero) = length_at w j
-segment_word w j (suc (suc k)) = numerator_at w j
-
-abbrev pub node_word : (w : List ℕ) (v k : ℕ) → ℕ
-node_word w v zero = offset_at w v
-node_word w v (suc zero) = deadline_at w v
-node_word w v (suc (suc k)) = density_at w v
 
 -- segment j in stretched time, as the own plan has it: it begins where those before it end
 abbrev pub begins_at : (own : List ℕ) (j : ℕ) → ℕ
