@@ -31,10 +31,18 @@ use Rattle.diagrams.proofs.Waking.{wake-all, look-due, wake-start, wake-wait, wa
 use Rattle.diagrams.proofs.Timing.{start-rising, start-behind, start-ahead, start-times, start-cuts, done-times, done-cuts}
 use Rattle.diagrams.proofs.Moving.{move-times, move-cuts}
 
+-- the lists that a run fills have 64 entries each
+pub record Roomy (m en z e f : List ℕ) : Type 0 where
+  pub counts : length m ≡ 64
+  pub enders : length en ≡ 64
+  pub lasts : length z ≡ 64
+  pub ends : length e ≡ 64
+  pub firsts : length f ≡ 64
+
 -- ---- before the first look
-pub sweep-none : {P X : List ℕ} {n : ℕ} {m en f z l e w : List ℕ} → SweepIn P X n m en e f z → length l ≡ 64 → w ≡ replicate 64 0
+pub sweep-none : {P X : List ℕ} {n : ℕ} {m en f z l e w : List ℕ} → SweepIn P X n → Roomy m en z e f → length l ≡ 64 → w ≡ replicate 64 0
     → Sweep P X n (λ _. 0) m en z 0 0 0 0 l e f w 0 0 (set_of n (λ k. 1))
-sweep-none {P} {n = n} {l = l} {e = e} h r none = rw none (record {
+sweep-none {P} {n = n} {l = l} {e = e} h room r none = rw none (record {
   fits = h.fits;
   tidy = h.tidy;
   light = h.light;
@@ -45,8 +53,8 @@ sweep-none {P} {n = n} {l = l} {e = e} h r none = rw none (record {
     listed = λ k g. absurd (nobody k g);
   };
   times = record {
-    ends = h.ends;
-    firsts = h.firsts;
+    ends = room.ends;
+    firsts = room.firsts;
     rising = λ i j a b. absurd (not-suc-le-zero b);
     begun = λ v g. absurd (nobody v g);
     behind = λ v g. absurd (nobody v g);
@@ -56,9 +64,9 @@ sweep-none {P} {n = n} {l = l} {e = e} h r none = rw none (record {
   };
   woken = wake-all P n e;
   cuts = record {
-    counts = h.counts;
-    enders = h.enders;
-    lasts = h.lasts;
+    counts = room.counts;
+    enders = room.enders;
+    lasts = room.lasts;
     few = omega arith;
     from = refl;
     present = refl;

@@ -7,3 +7,4 @@ pub mod Diagram
 pub mod Cutting
 pub mod Shares
 pub mod Words
+pub mod Listed

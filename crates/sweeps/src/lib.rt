@@ -2,13 +2,43 @@
 // is not done is the next cut.
 #![tactic(auto)]
 
-ghost use Rattle.std.specs.Prelude.{◌≡◌, List, ℕ, ◌≤◌, ◌<◌};
+ghost use Rattle.std.specs.Prelude.{◌≡◌, List, ℕ, ◌≤◌, ◌<◌, replicate};
 ghost use Rattle.plain.specs.At.{at};
 ghost use Rattle.sets.specs.Rule.{set_of};
 ghost use Rattle.sets.specs.Size.{size};
+ghost use Rattle.segments.specs.Inner.Listed.{threads_of, enders_of};
 ghost use Rattle.diagrams.specs.Inner.Sweep.{Sweep};
 ghost use Rattle.diagrams.specs.Inner.Moved.{MovedOn};
 ghost use Rattle.diagrams.specs.Inner.Traced.{SweepIn, Traced};
+
+use segments::Segment;
+
+// What a run leaves: the segments, the nodes' finishes, and the numbers of the cuts at which each node starts and finishes. (An array of structs of
+// the last three has 384 bytes more, and the segment step has 2,048 on the stack: `bench stack`.)
+#[derive(Clone, Copy)]
+pub struct Trace {
+    pub segments: [Segment; 64],
+    pub finishes: [u64; 64],
+    pub first: [u8; 64],
+    pub last: [u8; 64],
+}
+
+impl Trace {
+    // Before the run.
+    pub fn empty() -> Self
+        ensures { result ≡ record { segments = replicate 64 (record { threads = 0; ender = 0 }); finishes = replicate 64 0; first = replicate 64 0; last = replicate 64 0 } }
+    {
+        Self {
+            segments: [Segment {
+                threads: 0,
+                ender: 0,
+            }; 64],
+            finishes: [0; 64],
+            first: [0; 64],
+            last: [0; 64],
+        }
+    }
+}
 
 // A cut of the time: its number and its time.
 #[derive(Clone, Copy)]
@@ -33,13 +63,13 @@ pub struct Done {
 }
 
 // Looks at each node that is woken at a cut: it starts where all its parents are done, and else waits for the last that is not.
-fn look<'a>(
+fn look(
     list: &mut [u8; 64],
     finishes: &mut [u64; 64],
     first: &mut [u8; 64],
     waits: &mut [u64; 64],
-    parents: &'a [u64; 64],
-    executions: &'a [u64; 64],
+    parents: &[u64; 64],
+    executions: &[u64; 64],
     done: Done,
     from: Started,
     cut: Cut,
@@ -47,19 +77,16 @@ fn look<'a>(
     requires { (n : ℕ) × (c : ℕ → ℕ) × (m : List ℕ) × (en : List ℕ) × (z : List ℕ) × (head : ℕ) × Sweep parents.now executions.now n c m en z head done.set cut.number cut.time list.old finishes.old first.old waits.old from.tail from.set done.woken }
     ensures { (n : ℕ) (c : ℕ → ℕ) (m en z : List ℕ) (head : ℕ) → Sweep parents.now executions.now n c m en z head done.set cut.number cut.time list.old finishes.old first.old waits.old from.tail from.set done.woken → Sweep parents.now executions.now n c m en z head done.set cut.number cut.time list.new finishes.new first.new waits.new result.tail result.set 0 }
 {
-    let number = cut.number;
-    let time = cut.time;
-    let past = done.set;
     let mut tail = from.tail;
     let mut set = from.set;
     let mut left = done.woken;
     while left != 0 {
         let v = u64::trailing_zeros(left) as usize;
-        left = left & (left - 1);
-        let missing = parents[v] & !past;
+        left &= left - 1;
+        let missing = parents[v] & !done.set;
         if missing == 0 {
-            first[v] = number as u8;
-            finishes[v] = time + executions[v];
+            first[v] = cut.number as u8;
+            finishes[v] = cut.time + executions[v];
             queues::put(list, finishes, tail, v as u8);
             tail += 1;
             set = sets::with_member(set, v);
@@ -72,11 +99,11 @@ fn look<'a>(
 }
 
 // Takes every node that finishes at a cut off the queue, and gathers who waited for one of them.
-fn finish<'a>(
+fn finish(
     last: &mut [u8; 64],
-    list: &'a [u8; 64],
-    finishes: &'a [u64; 64],
-    waits: &'a [u64; 64],
+    list: &[u8; 64],
+    finishes: &[u64; 64],
+    waits: &[u64; 64],
     tail: usize,
     from: Done,
     cut: Cut,
@@ -85,48 +112,41 @@ fn finish<'a>(
     ensures by_index { (P X : List ℕ) (n : ℕ) (c : ℕ → ℕ) (m en f : List ℕ) (started : ℕ) → Sweep P X n c m en last.old from.head from.set cut.number cut.time list.now finishes.now f waits.now tail started 0 → Sweep P X n c m en last.new result.head result.set cut.number cut.time list.now finishes.now f waits.now tail started result.woken }
     ensures head_lt_head { from.head < tail → at finishes.now (at list.now from.head) ≡ cut.time → from.head < result.head }
 {
-    let number = cut.number;
-    let time = cut.time;
-    let mut head = from.head;
     let mut set = from.set;
     let mut woken: u64 = 0;
-    while head < tail {
+    for head in from.head..tail {
         let v = list[head] as usize;
-        if finishes[v] != time {
+        if finishes[v] != cut.time {
             return Done { head, set, woken };
         }
-        last[v] = number as u8;
+        last[v] = cut.number as u8;
         set = sets::with_member(set, v);
-        woken = woken | waits[v];
-        head += 1;
+        woken |= waits[v];
     }
-    Done { head, set, woken }
+    Done {
+        head: tail,
+        set,
+        woken,
+    }
 }
 
 // Moves the time on from a cut to the finish of node v, the next one: where that is later, one segment more, in which the given nodes run.
-fn move_on(
-    threads: &mut [u8; 64],
-    enders: &mut [u8; 64],
-    finishes: &[u64; 64],
-    running: u64,
-    v: u8,
-    cut: Cut,
-) -> Cut
+fn move_on(segments: &mut [Segment; 64], finishes: &[u64; 64], running: u64, v: u8, cut: Cut) -> Cut
     requires { (cut.number < 64) × (v < 64) }
-    ensures { MovedOn cut.number cut.time v (at finishes.now v) (size running) threads.old enders.old threads.new enders.new result.number result.time }
+    ensures { MovedOn cut.number cut.time v (at finishes.now v) (size running) (threads_of segments.old) (enders_of segments.old) (threads_of segments.new) (enders_of segments.new) result.number result.time }
 {
-    let j = cut.number;
-    let t = cut.time;
     let to = finishes[v as usize];
-    if t < to {
-        threads[j] = sets::size_of(running) as u8;
-        enders[j] = v;
+    if cut.time < to {
+        segments[cut.number] = Segment {
+            threads: sets::size_of(running) as u8,
+            ender: v,
+        };
         return Cut {
-            number: j + 1,
+            number: cut.number + 1,
             time: to,
         };
     }
-    Cut { number: j, time: t }
+    cut
 }
 
 // At first nobody is done, and all are to be looked at.
@@ -148,20 +168,10 @@ pub struct Swept {
     pub done: usize,
 }
 
-// Runs the timing diagram of a table: the threads of each segment and a node that ends it, the nodes' finishes, and the numbers of the cuts at
-// which each node starts and finishes. Where fewer than n nodes are done in the end, the others hold a loop.
-pub fn sweep<'a>(
-    threads: &mut [u8; 64],
-    enders: &mut [u8; 64],
-    finishes: &mut [u64; 64],
-    first: &mut [u8; 64],
-    last: &mut [u8; 64],
-    parents: &'a [u64; 64],
-    executions: &'a [u64; 64],
-    n: usize,
-) -> Swept
-    requires { SweepIn parents.now executions.now n threads.old enders.old finishes.old first.old last.old }
-    ensures { Traced parents.now executions.now n result.done result.cut.number result.cut.time threads.new enders.new finishes.new first.new last.new }
+// Runs the timing diagram of a table. Where fewer than n nodes are done in the end, the others hold a loop.
+pub fn sweep(trace: &mut Trace, parents: &[u64; 64], executions: &[u64; 64], n: usize) -> Swept
+    requires { SweepIn parents.now executions.now n }
+    ensures { Traced parents.now executions.now n result.done result.cut.number result.cut.time (threads_of trace.new.segments) (enders_of trace.new.segments) trace.new.finishes trace.new.first trace.new.last }
 {
     let mut list = [0u8; 64];
     let mut waits = [0u64; 64];
@@ -170,14 +180,38 @@ pub fn sweep<'a>(
     let mut begun = Started { tail: 0, set: 0 };
     loop {
         begun = look(
-            &mut list, finishes, first, &mut waits, parents, executions, done, begun, cut,
+            &mut list,
+            &mut trace.finishes,
+            &mut trace.first,
+            &mut waits,
+            parents,
+            executions,
+            done,
+            begun,
+            cut,
         );
-        let head = done.head;
-        if begun.tail <= head {
-            return Swept { cut, done: head };
+        if begun.tail <= done.head {
+            return Swept {
+                cut,
+                done: done.head,
+            };
         }
-        let v = list[head];
-        cut = move_on(threads, enders, finishes, begun.set & !done.set, v, cut);
-        done = finish(last, &list, finishes, &waits, begun.tail, done, cut);
+        let v = list[done.head];
+        cut = move_on(
+            &mut trace.segments,
+            &trace.finishes,
+            begun.set & !done.set,
+            v,
+            cut,
+        );
+        done = finish(
+            &mut trace.last,
+            &list,
+            &trace.finishes,
+            &waits,
+            begun.tail,
+            done,
+            cut,
+        );
     }
 }

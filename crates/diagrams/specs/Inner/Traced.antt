@@ -1,5 +1,5 @@
 -- What the run of a timing diagram leaves in the lent lists.
-use Rattle.std.specs.Prelude.{◌≡◌, false, List, ℕ, suc, ◌≤◌, ◌<◌, ltb, length}
+use Rattle.std.specs.Prelude.{◌≡◌, false, List, ℕ, suc, ◌≤◌, ◌<◌, ltb}
 use Rattle.plain.specs.At.{at}
 use Rattle.ways.specs.Inner.Tidy.{Tidy}
 use Rattle.ways.specs.Inner.Weights.{weight_max}
@@ -8,16 +8,11 @@ use Rattle.ways.specs.Ways.{begins, ends}
 use Rattle.segments.specs.Cut.{cut, latest, segments}
 use Rattle.segments.specs.Running.{threads}
 
--- what the run asks: at most 64 nodes, parent sets and executions in range, and lists of 64 entries lent
-pub record SweepIn (P X : List ℕ) (n : ℕ) (m en e f z : List ℕ) : Type 0 where
+-- what the run asks: at most 64 nodes, parent sets and executions in range
+pub record SweepIn (P X : List ℕ) (n : ℕ) : Type 0 where
   pub fits : n ≤ 64
   pub tidy : Tidy P n
   pub light : (v : ℕ) → at X v ≤ weight_max
-  pub counts : length m ≡ 64
-  pub enders : length en ≡ 64
-  pub ends : length e ≡ 64
-  pub firsts : length f ≡ 64
-  pub lasts : length z ≡ 64
 
 -- s segments up to the path, with the threads m: each node v finishes at e v, and segment j ends where node en j finishes
 pub record CutUp (n : ℕ) (S F : ℕ → ℕ) (s path : ℕ) (m en e : List ℕ) : Type 0 where

@@ -54,38 +54,8 @@ loop-left-preserved c =
 pub returns : goal.returns
 returns c = λ n d m en z head i. rw c.loop-left-test.false at (c.loop-left.invariant.2 n d m en z head i)
 
-pub overflow_cast-v : goal.overflow_cast-v
-overflow_cast-v c = omega (arith, (low (goal.at.overflow_cast-v c).In-loop-left).lt)
-
-pub offset_bounds-parents-v : goal.offset_bounds-parents-v
-offset_bounds-parents-v c = omega (arith, (low (goal.at.offset_bounds-parents-v c).In-loop-left).lt)
-
-pub bounds-parents-v : goal.bounds-parents-v
-bounds-parents-v c = (low (goal.at.bounds-parents-v c).In-loop-left).lt
-
-pub overflow_cast-first : goal.overflow_cast-first
-overflow_cast-first c = omega (arith, few (goal.at.overflow_cast-first c).In-loop-left)
-
-pub bounds-first-v : goal.bounds-first-v
-bounds-first-v c = (low (goal.at.bounds-first-v c).In-loop-left).lt
-
-pub offset_bounds-executions-v : goal.offset_bounds-executions-v
-offset_bounds-executions-v c = omega (arith, (low (goal.at.offset_bounds-executions-v c).In-loop-left).lt)
-
-pub bounds-executions-v : goal.bounds-executions-v
-bounds-executions-v c = (low (goal.at.bounds-executions-v c).In-loop-left).lt
-
 pub overflow_add-finishes : goal.overflow_add-finishes
 overflow_add-finishes c = omega (arith, fits (goal.at.overflow_add-finishes c).In-loop-left)
-
-pub offset_bounds-finishes-v : goal.offset_bounds-finishes-v
-offset_bounds-finishes-v c = omega (arith, (low (goal.at.offset_bounds-finishes-v c).In-loop-left).lt)
-
-pub bounds-finishes-v : goal.bounds-finishes-v
-bounds-finishes-v c = (low (goal.at.bounds-finishes-v c).In-loop-left).lt
-
-pub overflow_cast-v-then-missing-eq0 : goal.overflow_cast-v-then-missing-eq0
-overflow_cast-v-then-missing-eq0 c = omega (arith, (low (goal.at.overflow_cast-v-then-missing-eq0 c).In-loop-left).lt)
 
 pub put-requires : goal.put-requires
 put-requires c = look-put (c.loop-left.invariant.2 _ _ _ _ _ _ c.requires.6) (low (goal.at.put-requires c).In-loop-left)
@@ -93,29 +63,8 @@ put-requires c = look-put (c.loop-left.invariant.2 _ _ _ _ _ _ c.requires.6) (lo
 pub overflow_add-tail : goal.overflow_add-tail
 overflow_add-tail c = omega (arith, room (goal.at.overflow_add-tail c).In-loop-left)
 
-pub with_member-set-requires : goal.with_member-set-requires
-with_member-set-requires c = (low (goal.at.with_member-set-requires c).In-loop-left).lt
-
 pub loop-left-smaller-then-missing-eq0 : goal.loop-left-smaller-then-missing-eq0
 loop-left-smaller-then-missing-eq0 c = (low (goal.at.loop-left-smaller-then-missing-eq0 c).In-loop-left).less
-
-pub last_of-p-requires : goal.last_of-p-requires
-last_of-p-requires c = c.if-missing-eq0.false
-
-pub offset_bounds-waits-p : goal.offset_bounds-waits-p
-offset_bounds-waits-p c = omega (arith, c.last_of-p.ensures.low)
-
-pub bounds-waits-p : goal.bounds-waits-p
-bounds-waits-p c = c.last_of-p.ensures.low
-
-pub with_member-requires : goal.with_member-requires
-with_member-requires c = (low (goal.at.with_member-requires c).In-loop-left).lt
-
-pub offset_bounds-waits-p-else-missing-eq0 : goal.offset_bounds-waits-p-else-missing-eq0
-offset_bounds-waits-p-else-missing-eq0 c = omega (arith, c.last_of-p.ensures.low)
-
-pub bounds-waits-p-else-missing-eq0 : goal.bounds-waits-p-else-missing-eq0
-bounds-waits-p-else-missing-eq0 c = c.last_of-p.ensures.low
 
 pub loop-left-smaller : goal.loop-left-smaller
 loop-left-smaller c = (low (goal.at.loop-left-smaller c).In-loop-left).less

@@ -5,9 +5,9 @@ use Rattle.sweeps.proofs.look.Given as goal
 
 abbrev pub invariant-loop-left : goal.invariant-loop-left
 invariant-loop-left l =
-    (l.left < 2 ^ 64) × (l.past < 2 ^ 64) × ((n : ℕ) (c : ℕ → ℕ) (m en z : List ℕ) (head : ℕ)
-    → Sweep l.parents l.executions n c m en z head l.past l.number l.time l.initial.list l.initial.finishes l.initial.first l.initial.waits l.initial.tail l.initial.set l.initial.left
-    → Sweep l.parents l.executions n c m en z head l.past l.number l.time l.list l.finishes l.first l.waits l.tail l.set l.left)
+    (l.left < 2 ^ 64) × (l.fn.done.set < 2 ^ 64) × ((n : ℕ) (c : ℕ → ℕ) (m en z : List ℕ) (head : ℕ)
+    → Sweep l.parents l.executions n c m en z head l.fn.done.set l.cut.number l.cut.time l.initial.list l.initial.finishes l.initial.first l.initial.waits l.initial.tail l.initial.set l.initial.left
+    → Sweep l.parents l.executions n c m en z head l.fn.done.set l.cut.number l.cut.time l.list l.finishes l.first l.waits l.tail l.set l.left)
 
 abbrev pub decreases-loop-left : goal.decreases-loop-left
 decreases-loop-left l = l.left
