@@ -1,17 +1,16 @@
 -- What each call comes to, case by case: its definition is a chain of tests, and each test says a rule of document 01.
-use mathlib.Core.Path.{◌≡◌}
+use mathlib.Core.Path.{◌≡◌, refl}
 use mathlib.Core.Logic.{◌⊎◌, inl, inr}
-use mathlib.Core.Bool.{Bool}
+use mathlib.Core.Bool.{Bool, true, false}
 use mathlib.Core.List.{List}
 use Prim.Native.Nat.{ℕ, ◌≤◌, ◌<◌}
 use native.Mathlib.Omega.{arith}
+use Rattle.std.specs.Prelude.{Result, Ok, Err, ⊤}
 use lib.Dec.{eqb, ltb}
-use borrow.Author.Tests.{ltb-true, ltb-false, eqb-true, eqb-false}
+use borrow.Author.Tests.{ltb-true, ltb-false, le-ltb, eqb-true, eqb-false, ne_eqb}
 use Rattle.plain.specs.Pick.{one}
 use Rattle.refusals.specs.Numbers.{id_stands, board_full, not_standing, bad_cores, unsound_board}
 use Rattle.refusals.specs.declared.Refusal.{Refusal}
-use Rattle.refusals.specs.declared.Outcome.{Outcome}
-use Rattle.refusals.specs.declared.Outcome.TheVariants.{Accepted, Refused}
 use Rattle.refusals.specs.Refusal.{refusal}
 use Rattle.refusals.specs.Answer.{accepted, refused}
 use Rattle.boards.specs.declared.Row.{Row}
@@ -20,15 +19,17 @@ use Rattle.boards.specs.Row.{free_row, rows_max}
 use Rattle.boards.specs.Sound.{Sound, is_sound}
 use Rattle.boards.specs.Find.{place_of, free_at}
 use Rattle.boards.specs.Verdict.{cores_max}
-use Rattle.boards.specs.Change.{unchanged, placed, withdrawn, before_asking, asked_by}
+use Rattle.boards.specs.Change.{placed, withdrawn, before_asking, asked_by}
+use Rattle.plain.specs.Tests.{between}
 use Rattle.plain.proofs.Picks.{true-false, pick-case}
+use Rattle.plain.proofs.Tests.{between-true, true-between}
 use Rattle.boards.proofs.Sound.{sound-test, test-sound}
 
 -- a task's row: the id stands already; it goes to the lowest free row; all rows are taken
-pub data Placing (rows : List Row) (row : Row) : Change → Type 0 where
-  stands : place_of row.id rows < rows_max → Placing rows row (unchanged rows (refused (refusal id_stands 0)))
-  fills : rows_max ≤ place_of row.id rows → free_at rows < rows_max → Placing rows row (record { at = free_at rows; row = row; answer = accepted (free_at rows) })
-  full : rows_max ≤ place_of row.id rows → rows_max ≤ free_at rows → Placing rows row (unchanged rows (refused (refusal board_full 0)))
+pub data Placing (rows : List Row) (row : Row) : Result Change Refusal → Type 0 where
+  stands : place_of row.id rows < rows_max → Placing rows row (Err (refusal id_stands 0))
+  fills : rows_max ≤ place_of row.id rows → free_at rows < rows_max → Placing rows row (Ok (record { at = free_at rows; row = row }))
+  full : rows_max ≤ place_of row.id rows → rows_max ≤ free_at rows → Placing rows row (Err (refusal board_full 0))
 
 -- one of the three
 pub placing : (rows : List Row) (row : Row) → Placing rows row (placed rows row)
@@ -41,10 +42,10 @@ placing rows row =
     (λ f. full (ltb-false (place_of row.id rows) rows_max e) (ltb-false (free_at rows) rows_max f)))
 
 -- a withdrawal: the board isn't sound; the id isn't standing ("0 never stands"); its row becomes free
-pub data Withdrawing (rows : List Row) (id : ℕ) : Change → Type 0 where
-  unsound : (Sound rows → ⊥) → Withdrawing rows id (unchanged rows (refused (refusal unsound_board 0)))
-  absent : Sound rows → (id ≡ 0) ⊎ (rows_max ≤ place_of id rows) → Withdrawing rows id (unchanged rows (refused (refusal not_standing 0)))
-  frees : Sound rows → (id ≡ 0 → ⊥) → place_of id rows < rows_max → Withdrawing rows id (record { at = place_of id rows; row = free_row; answer = accepted (place_of id rows) })
+pub data Withdrawing (rows : List Row) (id : ℕ) : Result Change Refusal → Type 0 where
+  unsound : (Sound rows → ⊥) → Withdrawing rows id (Err (refusal unsound_board 0))
+  absent : Sound rows → (id ≡ 0) ⊎ (rows_max ≤ place_of id rows) → Withdrawing rows id (Err (refusal not_standing 0))
+  frees : Sound rows → (id ≡ 0 → ⊥) → place_of id rows < rows_max → Withdrawing rows id (Ok (record { at = place_of id rows; row = free_row }))
 
 -- one of the three
 pub withdrawing : (rows : List Row) (id : ℕ) → Withdrawing rows id (withdrawn rows id)
@@ -61,10 +62,10 @@ withdrawing rows id =
 
 -- what asking tries before a verdict: the board isn't sound; the core count is out of its range; neither
 module _ (rows : List Row) (m : ℕ) where
-  pub data Before : Outcome → Type 0 where
-    unsound : (Sound rows → ⊥) → Before (Refused (refusal unsound_board 0))
-    outside : Sound rows → (m ≡ 0) ⊎ (cores_max < m) → Before (Refused (refusal bad_cores 0))
-    asks : Sound rows → 1 ≤ m → m ≤ cores_max → Before Accepted
+  pub data Before : Result ⊤ Refusal → Type 0 where
+    unsound : (Sound rows → ⊥) → Before (Err (refusal unsound_board 0))
+    outside : Sound rows → (m ≡ 0) ⊎ (cores_max < m) → Before (Err (refusal bad_cores 0))
+    asks : Sound rows → 1 ≤ m → m ≤ cores_max → Before (Ok tt)
 
   -- one of the three
   pub before : Before (before_asking (is_sound rows) m)
@@ -79,21 +80,35 @@ module _ (rows : List Row) (m : ℕ) where
       (λ f. asks s (let n = eqb-false m 0 z in omega arith) (ltb-false cores_max m f))))
       (λ e. unsound (λ s. true-false (test-sound s) e))
 
+-- the code's test of the core count, by its range
+pub outside-refused : (m : ℕ) → between 1 m cores_max ≡ false → before_asking true m ≡ Err (refusal bad_cores 0)
+unfolding before_asking
+outside-refused m out =
+    pick-case (λ o. o ≡ Err (refusal bad_cores 0)) (eqb m 0) (λ z. refl)
+    (λ z. pick-case (λ o. o ≡ Err (refusal bad_cores 0)) (ltb cores_max m) (λ f. refl)
+    (λ f. let n = eqb-false m 0 z in let h = ltb-false cores_max m f in absurd (true-false (true-between 1 m cores_max (omega arith) h) out)))
+
+pub inside-asks : (m : ℕ) → between 1 m cores_max ≡ true → before_asking true m ≡ Ok tt
+unfolding before_asking
+inside-asks m e =
+    let w = between-true 1 m cores_max e in
+    rw (ne_eqb m 0 (λ z. let l = w.0 in omega arith), le-ltb cores_max m w.1)
+
 -- any verdict, by that outcome
 module _ (says : List Row → ℕ → Bool) (rows : List Row) (m : ℕ) where
-  pub asked-refused : {r : Refusal} → before_asking (is_sound rows) m ≡ Refused r → asked_by says rows m ≡ refused r
+  pub asked-refused : {r : Refusal} → before_asking (is_sound rows) m ≡ Err r → asked_by says rows m ≡ refused r
   unfolding asked_by
   asked-refused e = rw e
 
-  pub asked-told : before_asking (is_sound rows) m ≡ Accepted → asked_by says rows m ≡ accepted (one (says rows m))
+  pub asked-told : before_asking (is_sound rows) m ≡ Ok tt → asked_by says rows m ≡ accepted (one (says rows m))
   unfolding asked_by
   asked-told e = rw e
 
 -- where nothing is refused, the board is sound and the core count in its range
-pub may-ask : (rows : List Row) (m : ℕ) → before_asking (is_sound rows) m ≡ Accepted → Sound rows × ((1 ≤ m) × (m ≤ cores_max))
+pub may-ask : (rows : List Row) (m : ℕ) → before_asking (is_sound rows) m ≡ Ok tt → Sound rows × ((1 ≤ m) × (m ≤ cores_max))
 may-ask rows m = by (before rows m)
   where
-    by : {o : Outcome} → Before rows m o → o ≡ Accepted → Sound rows × ((1 ≤ m) × (m ≤ cores_max))
+    by : {o : Result ⊤ Refusal} → Before rows m o → o ≡ Ok tt → Sound rows × ((1 ≤ m) × (m ≤ cores_max))
     by (unsound u) e = absurd (let z : ◌≡◌ {A = ℕ} 0 1 = cc in omega arith)
     by (outside s c) e = absurd (let z : ◌≡◌ {A = ℕ} 0 1 = cc in omega arith)
     by (asks s l h) e = (s, (l, h))

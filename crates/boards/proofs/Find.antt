@@ -1,17 +1,24 @@
 -- The place of an id is the lowest row that has it: by induction on the rows, as the search goes through them.
-use mathlib.Core.Path.{◌≡◌}
+use mathlib.Core.Path.{◌≡◌, refl}
 use mathlib.Core.Logic.{⊎_elim}
+use mathlib.Core.Bool.{Bool, true, false, cond}
 use mathlib.Core.List.{List, [], ◌∷◌}
 use Prim.Native.Nat.{ℕ, zero, suc, ◌≤◌, ◌<◌, zero-le, suc-le-suc}
 use native.Mathlib.Nat.{le_of_suc-le-suc, not-suc-le-zero, le_antisymm}
+use native.Mathlib.Numerals.{one-add}
 use native.Mathlib.Omega.{arith}
-use lib.Dec.{eqb}
+use lib.Dec.{eqb, ltb}
 use lib.ListN.{length}
 use borrow.Author.Tests.{eqb-true, eqb-false}
 use Rattle.plain.proofs.Lists.{lt-or-ge}
 use Rattle.boards.specs.declared.Row.{Row}
-use Rattle.boards.specs.Row.{row_at}
+use Rattle.boards.specs.Row.{rows_max, row_at}
 use Rattle.boards.specs.Find.{place_of}
+use Rattle.boards.specs.Inner.Place.{row_place}
+use Rattle.plain.specs.Pick.{pick}
+use Rattle.std.proofs.Common.{Some, None}
+use Rattle.std.specs.List.{position, position_or_len}
+use Rattle.std.proofs.lemmas.List.Recursion.{is_position_or_len}
 use Rattle.plain.proofs.Picks.{pick-case}
 
 -- at most as many as there are rows
@@ -47,3 +54,30 @@ place_is id rows k h e before =
 -- and where none has it the place is their number
 pub none-place : (id : ℕ) (rows : List Row) → ((k : ℕ) → k < length rows → (row_at rows k).id ≡ id → ⊥) → place_of id rows ≡ length rows
 none-place id rows f = le_antisymm (place-le id rows) (⊎_elim (λ (h : place_of id rows < length rows). absurd (f (place_of id rows) h (place-id id rows h))) (λ (h : length rows ≤ place_of id rows). h) (lt-or-ge (place_of id rows) (length rows)))
+
+-- which is what a search by position finds
+picked : {A : Type 0} (t : Bool) (a b : A) → pick t a b ≡ cond t a b
+picked true a b = refl
+picked false a b = refl
+
+by-position : (id : ℕ) (rows : List Row) → place_of id rows ≡ position_or_len (λ (r : Row). eqb r.id id) rows
+unfolding place_of
+by-position id rows = is_position_or_len (place_of id) (λ (r : Row). eqb r.id id) refl (λ r rs. rw one-add (picked (eqb r.id id) 0 (suc (place_of id rs)))) rows
+
+pub position-place : (id : ℕ) (rows : List Row) → length rows ≡ rows_max → position (λ (r : Row). eqb r.id id) rows ≡ row_place (place_of id rows)
+position-place id rows e = rw (← (by-position id rows), e) (rw (picked (ltb (place_of id rows) rows_max) (Some (place_of id rows)) None))
+
+-- of a place that is or isn't one of a row
+pub no-row : (k : ℕ) → None ≡ row_place k → ltb k rows_max ≡ false
+no-row k = by (ltb k rows_max)
+  where
+    by : (b : Bool) → None ≡ pick b (Some k) None → b ≡ false
+    by true e = absurd (let z : ◌≡◌ {A = ℕ} 0 1 = cc in omega arith)
+    by false e = refl
+
+pub some-row : (k a : ℕ) → Some a ≡ row_place k → (ltb k rows_max ≡ true) × (a ≡ k)
+some-row k a = by (ltb k rows_max)
+  where
+    by : (b : Bool) → Some a ≡ pick b (Some k) None → (b ≡ true) × (a ≡ k)
+    by true e = (refl, cc)
+    by false e = absurd (let z : ◌≡◌ {A = ℕ} 0 1 = cc in omega arith)

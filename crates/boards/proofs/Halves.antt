@@ -2,18 +2,17 @@
 -- ranges of a standing one, and one with an id isn't free.
 use mathlib.Core.Path.{◌≡◌, refl, sym, ◌∙◌}
 use mathlib.Core.Bool.{Bool, true, false}
+use mathlib.Core.List.{List}
 use Prim.Native.Nat.{ℕ, zero, suc, ◌<◌}
 use lib.Dec.{eqb}
 use lib.ListN.{length}
 use borrow.Author.Tests.{eqb-true, eq-eqb}
 use Rattle.plain.specs.Pick.{pick}
 use Rattle.boards.specs.declared.Row.{Row}
-use Rattle.boards.specs.declared.Board.{Board}
 use Rattle.boards.specs.Row.{rows_max, row_at}
 use Rattle.plain.specs.Tests.{both, all_to}
 use Rattle.boards.specs.Sound.{is_untimed, is_sound_row, is_new, is_sound}
 use Rattle.boards.specs.Inner.Halves.{densities_fit, times_fit, densities_sound, times_sound}
-use Rattle.boards.proofs.Held.{Held, sixteen}
 use Rattle.plain.proofs.Tests.{all_to-same}
 
 -- one row
@@ -54,16 +53,9 @@ all_to-both (suc n) f g = rw (all_to-both n f g) (apart (all_to n f) (all_to n g
     apart false b c d = refl
 
 -- so of a board
-pub halves : (b : Board) → Held b → both (densities_sound b.rows) (times_sound b.rows) ≡ is_sound b.rows
+pub halves : (rows : List Row) → length rows ≡ rows_max → both (densities_sound rows) (times_sound rows) ≡ is_sound rows
 unfolding is_sound
-halves b h = rw (eq-eqb (length b.rows) rows_max (sixteen b h)) (sym (all_to-same rows_max _ _ each ∙ all_to-both rows_max (λ k. both (densities_fit (row_at b.rows k)) (is_new (λ i. (row_at b.rows i).id) k)) (λ k. times_fit (row_at b.rows k))))
+halves rows h = rw (eq-eqb (length rows) rows_max h) (sym (all_to-same rows_max _ _ each ∙ all_to-both rows_max (λ k. both (densities_fit (row_at rows k)) (is_new (λ i. (row_at rows i).id) k)) (λ k. times_fit (row_at rows k))))
   where
-    each : (k : ℕ) → k < rows_max → both (is_sound_row (row_at b.rows k)) (is_new (λ i. (row_at b.rows i).id) k) ≡ both (both (densities_fit (row_at b.rows k)) (is_new (λ i. (row_at b.rows i).id) k)) (times_fit (row_at b.rows k))
-    each k l = rw (row-halves (row_at b.rows k)) (swapped (densities_fit (row_at b.rows k)) (times_fit (row_at b.rows k)) (is_new (λ i. (row_at b.rows i).id) k))
-
--- as code that asks the second half only where the first holds has it
-pub first_holds : (b : Board) → Held b → {s : Bool} → densities_sound b.rows ≡ true → s ≡ times_sound b.rows → s ≡ is_sound b.rows
-first_holds b h d t = rw (← (halves b h), d) t
-
-pub first-fails : (b : Board) → Held b → {s : Bool} → densities_sound b.rows ≡ false → s ≡ false → s ≡ is_sound b.rows
-first-fails b h d t = rw (← (halves b h), d) t
+    each : (k : ℕ) → k < rows_max → both (is_sound_row (row_at rows k)) (is_new (λ i. (row_at rows i).id) k) ≡ both (both (densities_fit (row_at rows k)) (is_new (λ i. (row_at rows i).id) k)) (times_fit (row_at rows k))
+    each k l = rw (row-halves (row_at rows k)) (swapped (densities_fit (row_at rows k)) (times_fit (row_at rows k)) (is_new (λ i. (row_at rows i).id) k))

@@ -7,14 +7,15 @@ use native.Mathlib.Nat.{eq-or-lt_of_le}
 use native.Mathlib.Decide.{ℕ_discrete}
 use native.Mathlib.Omega.{arith}
 use lib.ListN.{set, length-set}
-use lib.Seq.{get_or-set_same, get_or-set_other, set-get_or}
-use Rattle.refusals.specs.declared.Answer.{Answer}
+use Rattle.std.specs.Prelude.{Result}
+use lib.Seq.{get_or-set_same, get_or-set_other}
+use Rattle.refusals.specs.declared.Refusal.{Refusal}
 use Rattle.boards.specs.declared.Row.{Row}
 use Rattle.boards.specs.declared.Change.{Change}
 use Rattle.boards.specs.Row.{free_row, rows_max, row_at}
 use Rattle.boards.specs.Sound.{Standing, Sound}
 use Rattle.boards.specs.Find.{place_of, free_at}
-use Rattle.boards.specs.Change.{unchanged, changed, placed, withdrawn}
+use Rattle.boards.specs.Change.{changed, answer_to, placed, withdrawn}
 use Rattle.boards.proofs.Find.{place-id, place-before, place-at-most}
 use Rattle.boards.proofs.Cases.{Placing, placing, Withdrawing, withdrawing}
 use Rattle.boards.proofs.Cases.Placing.{stands, fills, full}
@@ -27,10 +28,6 @@ others-kept rows at row k n = get_or-set_other rows at k row free_row n
 -- and the row written is there
 pub row_written : {rows : List Row} → Sound rows → (at : ℕ) → at < rows_max → (row : Row) → row_at (set rows at row) at ≡ row
 row_written {rows} s at h row = get_or-set_same rows at row free_row (rw s.sixteen h)
-
--- a refusal leaves every row as it was
-pub refusal-kept : (rows : List Row) (a : Answer) → changed rows (unchanged rows a) ≡ rows
-refusal-kept rows a = set-get_or rows 0 free_row
 
 -- a row written over a sound board keeps it sound, where no row has its id yet
 write-sound : {rows : List Row} → Sound rows → (at : ℕ) → at < rows_max → (row : Row) → (row ≡ free_row) ⊎ Standing row → ((k : ℕ) → k < rows_max → (row_at rows k).id ≡ row.id → row.id ≡ 0) → Sound (set rows at row)
@@ -79,38 +76,38 @@ one-row {rows} s id z k l e = ⊎_elim
 
 module _ (rows : List Row) (row : Row) where
   -- a refused placing changes nothing
-  pub placed-refused : ((placed rows row).answer.refusal ≡ 0 → ⊥) → changed rows (placed rows row) ≡ rows
+  pub placed-refused : ((answer_to (placed rows row)).refusal ≡ 0 → ⊥) → changed rows (placed rows row) ≡ rows
   placed-refused = go (placing rows row)
     where
-      go : {c : Change} → Placing rows row c → (c.answer.refusal ≡ 0 → ⊥) → changed rows c ≡ rows
-      go {c} (stands h) n = refusal-kept rows c.answer
+      go : {c : Result Change Refusal} → Placing rows row c → ((answer_to c).refusal ≡ 0 → ⊥) → changed rows c ≡ rows
+      go (stands h) n = refl
       go (fills h f) n = absurd (n refl)
-      go {c} (full h f) n = refusal-kept rows c.answer
+      go (full h f) n = refl
 
   -- a standing row keeps the board sound
   pub placed-sound : Sound rows → Standing row → Sound (changed rows (placed rows row))
   placed-sound s t = go (placing rows row)
     where
-      go : {c : Change} → Placing rows row c → Sound (changed rows c)
-      go {c} (stands h) = rw (refusal-kept rows c.answer) s
+      go : {c : Result Change Refusal} → Placing rows row c → Sound (changed rows c)
+      go (stands h) = s
       go (fills h f) = write-sound s (free_at rows) f row (inr t) (λ k l e. absurd (place-before row.id rows k (omega arith) e))
-      go {c} (full h f) = rw (refusal-kept rows c.answer) s
+      go (full h f) = s
 
 module _ (rows : List Row) (id : ℕ) where
   -- a refused withdrawal changes nothing
-  pub withdrawn-refused : ((withdrawn rows id).answer.refusal ≡ 0 → ⊥) → changed rows (withdrawn rows id) ≡ rows
+  pub withdrawn-refused : ((answer_to (withdrawn rows id)).refusal ≡ 0 → ⊥) → changed rows (withdrawn rows id) ≡ rows
   withdrawn-refused = go (withdrawing rows id)
     where
-      go : {c : Change} → Withdrawing rows id c → (c.answer.refusal ≡ 0 → ⊥) → changed rows c ≡ rows
-      go {c} (unsound u) n = refusal-kept rows c.answer
-      go {c} (absent s a) n = refusal-kept rows c.answer
+      go : {c : Result Change Refusal} → Withdrawing rows id c → ((answer_to c).refusal ≡ 0 → ⊥) → changed rows c ≡ rows
+      go (unsound u) n = refl
+      go (absent s a) n = refl
       go (frees s z h) n = absurd (n refl)
 
   -- it keeps the board sound
   pub withdrawn-sound : Sound rows → Sound (changed rows (withdrawn rows id))
   withdrawn-sound s = go (withdrawing rows id)
     where
-      go : {c : Change} → Withdrawing rows id c → Sound (changed rows c)
+      go : {c : Result Change Refusal} → Withdrawing rows id c → Sound (changed rows c)
       go (unsound u) = absurd (u s)
-      go {c} (absent s a) = rw (refusal-kept rows c.answer) s
+      go (absent w a) = s
       go (frees s z h) = write-sound s (place_of id rows) h free_row (inl refl) (λ k l e. refl)

@@ -8,4 +8,4 @@ pub mod Figures
 pub mod Fractions
 pub mod Nodes
 pub mod Sides
-pub mod Held
+pub mod Walks

@@ -2,13 +2,16 @@
 -- other does.
 use mathlib.Core.Path.{◌≡◌, refl, sym, subst, ◌∙◌}
 use mathlib.Core.Logic.{◌⊎◌, inl, inr, ⊎_elim}
-use mathlib.Core.Bool.{true, false}
+use mathlib.Core.Bool.{Bool, true, false, not}
 use mathlib.Core.List.{List}
-use Prim.Native.Nat.{ℕ, ◌*◌, ◌%◌, ◌≤◌, ◌<◌, zero-le}
+use Prim.Native.Nat.{ℕ, ◌*◌, ◌%◌, ◌^◌, ◌≤◌, ◌<◌, zero-le}
 use native.Mathlib.Nat.{le_trans, mul-le-mul}
 use native.Mathlib.Omega.{arith}
 use lib.Dec.{eqb, leb}
-use lib.ListN.{length, replicate}
+use lib.ListN.{length, replicate, take}
+use Rattle.std.specs.List.{list_all, sum_by}
+use Rattle.plain.specs.At.{at}
+use Rattle.boards.proofs.Walks.{all-part, sum-walked}
 use borrow.Author.Tests.{eqb-true, eqb-false, eq-eqb, ne_eqb, leb-true, le-leb}
 use Rattle.plain.specs.Pick.{pick}
 use Rattle.plain.proofs.Sums.{sum_mono, sum_to-le, max_to-le}
@@ -114,6 +117,14 @@ pub new-same : (ids others : ℕ → ℕ) (k : ℕ) → ((i : ℕ) → i ≤ k �
 unfolding is_new
 new-same ids others k e = rw (e k (omega arith), all_to-same k (λ i. pick (eqb (ids i) (others k)) false true) (λ i. pick (eqb (others i) (others k)) false true) (λ i l. rw (e i (omega arith))))
 
+-- as a walk over the ids before tells it
+pub others-new : (ids : List ℕ) (k : ℕ) → k ≤ length ids → list_all (λ x. not (eqb x (at ids k))) (take k ids) ≡ all_to k (λ i. pick (eqb (at ids i) (at ids k)) false true)
+others-new ids k h = all-part ids 0 (λ x. not (eqb x (at ids k))) k h ∙ all_to-same k _ _ (λ i l. other (eqb (at ids i) (at ids k)))
+  where
+    other : (b : Bool) → not b ≡ pick b false true
+    other true = refl
+    other false = refl
+
 -- an id is new that has a remainder which no earlier one has
 pub new_apart : (ids : ℕ → ℕ) (k s : ℕ) → ((i : ℕ) → i < k → Member (ids i % 64) s) → (Member (ids k % 64) s → ⊥) → is_new ids k ≡ true
 new_apart ids k s has n = test-new ids k (λ i h q. absurd (n (subst (λ (x : ℕ). Member (x % 64) s) q (has i h))))
@@ -154,6 +165,11 @@ module _ {rows : List Row} (s : Sound rows) where
   pub sum_of-le : sum_of rows ≤ rows_max * (count_max * density_max)
   unfolding sum_of
   sum_of-le = sum_to-le rows_max (count_max * density_max) _ row-sum-le
+
+  -- nor is the sum too great for a word
+  pub sums-fit : sum_by (λ (r : Row). r.sum) rows < 2 ^ 64
+  unfolding sum_of
+  sums-fit = omega (arith, sum-walked rows free_row (λ (r : Row). r.sum) rows_max s.sixteen, sum_of-le)
 
   pub largest_of-le : largest_of rows ≤ density_max
   unfolding largest_of

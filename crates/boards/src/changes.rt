@@ -1,129 +1,96 @@
 // What each call on a board changes, and what it answers.
-ghost use Rattle.std.specs.Prelude.{◌≡◌, ◌<◌, set};
-ghost use Rattle.plain.specs.Pick.{one};
+ghost use Rattle.std.specs.Prelude.{◌≡◌, ◌<◌, ◌≤◌, Bool, List, ℕ, set, IfOk};
 ghost use Rattle.refusals.specs.Numbers.{unsound_board};
 ghost use Rattle.refusals.specs.Refusal.{refusal};
-ghost use Rattle.refusals.specs.Answer.{accepted, refused};
+ghost use Rattle.refusals.specs.Answer.{answered};
+ghost use Rattle.boards.specs.declared.Row.{Row};
 ghost use Rattle.boards.specs.Row.{rows_max};
-ghost use Rattle.boards.specs.Change.{unchanged, withdrawn, before_asking, asked};
+ghost use Rattle.boards.specs.Sound.{Sound};
+ghost use Rattle.boards.specs.Verdict.{cores_max};
+ghost use Rattle.boards.specs.Change.{withdrawn, before_asking, asked_by, asked};
 ghost use Rattle.boards.specs.Inner.Place.{told_place};
 
 use crate::places::place_of;
-use crate::soundness::{densities_sound, times_sound};
+use crate::soundness::is_sound;
 use crate::verdicts::verdict_for;
-use crate::{Board, Change, ROWS, Row};
-use refusals::{Answer, Outcome, Refusal};
+use crate::{Board, Change, Row};
+use refusals::{Answer, Reason, Refusal};
 
 // Limit of specs/: the most cores.
 const CORES_MAX: u64 = 64;
 
 // The board with one row written.
-pub fn with_row(board: Board, at: usize, row: Row) -> Board
+pub fn with_row(mut board: Board, at: usize, row: Row) -> Board
     requires { at < rows_max }
     ensures { result.rows ≡ set board.rows at row }
 {
-    let mut next = board;
-    next.rows[at] = row;
-    next
-}
-
-// A refusal: every row stays as it was.
-pub fn unchanged(board: Board, answer: Answer) -> Change
-    ensures { result ≡ unchanged board.rows answer }
-{
-    let first = board.rows[0];
-    Change {
-        at: 0,
-        row: first,
-        answer,
-    }
-}
-
-// A refusal by a rule of the board, whose place is 0.
-fn refused_by(number: u64) -> Answer
-    ensures { result ≡ refused (refusal number 0) }
-{
-    Answer::refused(Refusal::of(number, 0))
+    board.rows[at] = row;
+    board
 }
 
 // The refusal of a board that isn't sound.
-pub fn unsound() -> Answer
-    ensures { result ≡ refused (refusal unsound_board 0) }
+pub fn unsound() -> Refusal
+    ensures { result ≡ refusal unsound_board 0 }
 {
-    refused_by(Refusal::UNSOUND_BOARD)
+    Reason::UnsoundBoard.at(0)
 }
 
-// Where a task may go, as an answer, by the place at which its id stands and the lowest free one: 12, 13, else the latter.
-pub fn told_place(standing: usize, free: usize) -> Answer
+// Where a task may go, by the row at which its id stands and the lowest free one: 12, 13, else the latter.
+pub fn told_place(standing: Option<usize>, free: Option<usize>) -> Result<usize, Refusal>
     ensures { result ≡ told_place standing free }
 {
-    if standing < ROWS {
-        return refused_by(Refusal::ID_STANDS);
+    if standing.is_some() {
+        return Err(Reason::IdStands.at(0));
     }
-    if free < ROWS {
-        return Answer::accepted(free as u64);
-    }
-    refused_by(Refusal::BOARD_FULL)
+    free.ok_or(Reason::BoardFull.at(0))
 }
 
 // The row with this id becomes free.
-pub fn withdrawn(board: Board, id: u64) -> Change
-    ensures { (result ≡ withdrawn board.rows id) × (result.at < rows_max) }
+pub fn withdrawn(board: &Board, id: u64) -> Result<Change, Refusal>
+    ensures told { result ≡ withdrawn board.now.rows id }
+    ensures inside { IfOk result (λ change. change.at < rows_max) }
 {
-    let sound = densities_sound(board) && times_sound(board);
-    if !sound {
-        return unchanged(board, unsound());
+    if !is_sound(board) {
+        return Err(unsound());
     }
     if id == 0 {
-        return unchanged(board, refused_by(Refusal::NOT_STANDING));
+        return Err(Reason::NotStanding.at(0));
     }
-    let at = place_of(board, id);
-    if at < ROWS {
-        Change {
-            at,
-            row: Row::free(),
-            answer: Answer::accepted(at as u64),
-        }
-    } else {
-        unchanged(board, refused_by(Refusal::NOT_STANDING))
-    }
+    let Some(at) = place_of(board, id) else {
+        return Err(Reason::NotStanding.at(0));
+    };
+    let row = Row::free();
+    Ok(Change { at, row })
 }
 
 // Whether a verdict is to be given at all: 17, then 15.
-pub fn before_asking(sound: bool, cores: u64) -> Outcome
+pub fn before_asking(sound: bool, cores: u64) -> Result<(), Refusal>
     ensures { result ≡ before_asking sound cores }
 {
     if !sound {
-        return Outcome::Refused(Refusal::of(Refusal::UNSOUND_BOARD, 0));
+        return Err(unsound());
     }
-    if cores == 0 {
-        return Outcome::Refused(Refusal::of(Refusal::BAD_CORES, 0));
+    if !(1..=CORES_MAX).contains(&cores) {
+        return Err(Reason::BadCores.at(0));
     }
-    if CORES_MAX < cores {
-        return Outcome::Refused(Refusal::of(Refusal::BAD_CORES, 0));
-    }
-    Outcome::Accepted
+    Ok(())
 }
 
-// Yes or no as an answer.
-pub fn told(yes: bool) -> Answer
-    ensures { result ≡ accepted (one yes) }
+// Asking for a verdict, which is given only where nothing is refused: 1 for yes and 0 for no.
+pub fn asked_by<F: FnOnce() -> bool>(board: &Board, cores: u64, says: F) -> Result<u64, Refusal>
+    ghost yes: { List Row → ℕ → Bool }
+    requires asks { Sound board.now.rows → 1 ≤ cores → cores ≤ cores_max → F.pre says }
+    requires says { (told : Bool) → F.post says told → told ≡ yes board.now.rows cores }
+    ensures { answered result ≡ asked_by yes board.now.rows cores }
 {
-    if yes {
-        Answer::accepted(1)
-    } else {
-        Answer::accepted(0)
-    }
+    before_asking(is_sound(board), cores)?;
+    let yes = says();
+    Ok(u64::from(yes))
 }
 
 // The verdict for so many cores.
-pub fn asked(board: Board, cores: u64) -> Answer
-    ensures { result ≡ asked board.rows cores }
+pub fn asked(board: &Board, cores: u64) -> Answer
+    ensures { result ≡ asked board.now.rows cores }
 {
-    let sound = densities_sound(board) && times_sound(board);
-    let first = before_asking(sound, cores);
-    let Outcome::Accepted = first else {
-        return refusals::answer_of(first);
-    };
-    told(verdict_for(board, cores))
+    Answer::from(asked_by(board, cores, || verdict_for(board, cores)))
 }

@@ -4,27 +4,23 @@
 ghost use Rattle.std.specs.Prelude.{◌≡◌, replicate};
 ghost use Rattle.boards.specs.Row.{free_row, rows_max};
 
-use refusals::Answer;
-
 mod changes;
 mod loads;
 mod places;
 mod soundness;
 mod verdicts;
 
-pub use changes::{
-    asked, before_asking, told, told_place, unchanged, unsound, with_row, withdrawn,
-};
+pub use changes::{asked, asked_by, before_asking, told_place, unsound, with_row, withdrawn};
 pub use loads::{Load, load_of};
 pub use places::place_of;
-pub use soundness::{densities_sound, times_sound};
+pub use soundness::{densities_sound, is_sound, times_sound};
 pub use verdicts::{Peaks, peaks_of, sum_of};
 
 // Limit of specs/: the rows of a board.
 pub const ROWS: usize = 16;
 
 #[repr(C)]
-#[derive(Clone, Copy)]
+#[derive(Clone, Copy, Debug, PartialEq, Eq, Default)]
 pub struct Row {
     pub id: u64,
     pub nodes: u64,
@@ -35,32 +31,23 @@ pub struct Row {
     pub over: u64,
 }
 
-#[derive(Clone, Copy)]
+#[derive(Clone, Copy, Debug, PartialEq, Eq)]
 pub struct Board {
     pub rows: [Row; ROWS],
 }
 
-// One row at one place, and the answer.
-#[derive(Clone, Copy)]
+// One row, and the place to write it at.
+#[derive(Clone, Copy, Debug, PartialEq, Eq)]
 pub struct Change {
     pub at: usize,
     pub row: Row,
-    pub answer: Answer,
 }
 
 impl Row {
     pub fn free() -> Self
         ensures { result ≡ free_row }
     {
-        Self {
-            id: 0,
-            nodes: 0,
-            sum: 0,
-            largest: 0,
-            longest: 0,
-            shortest: 0,
-            over: 0,
-        }
+        Self::default()
     }
 }
 

@@ -1,64 +1,37 @@
-// S and M of a board, found on the walk that tests its times. On a shorter walk of their own the compiler would take the board apart and keep the parts.
-ghost use Rattle.std.specs.Prelude.{◌≡◌, true, false};
-ghost use Rattle.boards.specs.Inner.Halves.{densities_sound, times_sound};
-ghost use Rattle.boards.specs.Inner.Load.{Tallied, LoadOf};
+// S and M of a board, and what so many cores need for them.
+ghost use Rattle.std.specs.Prelude.{◌≡◌, ◌≤◌};
+ghost use Rattle.boards.specs.Verdict.{cores_max};
+ghost use Rattle.boards.specs.Inner.Load.{LoadOf, Bounded, left_side};
 
-use crate::soundness::{densities_sound, times_fit};
-use crate::{Board, ROWS};
+use crate::Board;
+use crate::soundness::is_sound;
+use crate::verdicts::{peaks_of, sum_of};
 
-// Whether the board is sound, and if so S and M.
-#[derive(Clone, Copy)]
+// The sum of all densities and the largest of them.
+#[derive(Clone, Copy, Debug, PartialEq, Eq)]
 pub struct Load {
-    pub sound: bool,
     pub sum: u64,
     pub largest: u64,
 }
 
 impl Load {
-    // Nothing is told of a board that isn't sound.
-    fn unsound() -> Self
-        ensures { result.sound ≡ false }
+    // S + (m − 1) × M, the left side of a verdict for m cores.
+    pub fn left_side(self, cores: u64) -> u64
+        requires { Bounded self × (1 ≤ cores) × (cores ≤ cores_max) }
+        ensures { result ≡ left_side self cores }
     {
-        Self {
-            sound: false,
-            sum: 0,
-            largest: 0,
-        }
+        self.sum + (cores - 1) * self.largest
     }
 }
 
-// The same by the second half of the test, where the first holds, so that no sum is too great to be added.
-fn times_load(board: Board) -> Load
-    requires { densities_sound board.rows ≡ true }
-    ensures { (result.sound ≡ times_sound board.rows) × (result.sound ≡ true → Tallied board.rows result) }
+// The load of a sound board; nothing is told of any other.
+pub fn load_of(board: &Board) -> Option<Load>
+    ensures { LoadOf board.now.rows result }
 {
-    let mut sum: u64 = 0;
-    let mut largest: u64 = 0;
-    let mut k: usize = 0;
-    while k < ROWS {
-        let row = board.rows[k];
-        if !times_fit(row) {
-            return Load::unsound();
-        }
-        sum += row.sum;
-        if largest < row.largest {
-            largest = row.largest;
-        }
-        k += 1;
+    if !is_sound(board) {
+        return None;
     }
-    Load {
-        sound: true,
-        sum,
-        largest,
-    }
-}
-
-// By both halves.
-pub fn load_of(board: Board) -> Load
-    ensures { LoadOf board.rows result }
-{
-    if !densities_sound(board) {
-        return Load::unsound();
-    }
-    times_load(board)
+    let sum = sum_of(board);
+    let largest = peaks_of(board).largest;
+    Some(Load { sum, largest })
 }

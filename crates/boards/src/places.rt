@@ -1,20 +1,13 @@
 // Where a row stands.
 ghost use Rattle.std.specs.Prelude.{◌≡◌};
 ghost use Rattle.boards.specs.Find.{place_of};
+ghost use Rattle.boards.specs.Inner.Place.{row_place};
 
-use crate::{Board, ROWS};
+use crate::Board;
 
-// The lowest row with this id; 16 where none has it.
-pub fn place_of(board: Board, id: u64) -> usize
-    ensures { result ≡ place_of id board.rows }
+// The lowest row with this id, where one has it.
+pub fn place_of(board: &Board, id: u64) -> Option<usize>
+    ensures { result ≡ row_place (place_of id board.now.rows) }
 {
-    let mut k: usize = 0;
-    while k < ROWS {
-        let row = board.rows[k];
-        if row.id == id {
-            return k;
-        }
-        k += 1;
-    }
-    k
+    board.rows.iter().position(|row| row.id == id)
 }

@@ -3,58 +3,41 @@ ghost use Rattle.std.specs.Prelude.{◌≡◌, ◌≤◌};
 ghost use Rattle.boards.specs.Sound.{Sound};
 ghost use Rattle.boards.specs.Verdict.{sum_of, largest_of, longest_of, verdict, cores_max};
 
-use crate::{Board, ROWS};
+use crate::Board;
+use crate::loads::Load;
 use tables::MILLION;
 
 // S: the sum over all standing nodes.
-pub fn sum_of(board: Board) -> u64
-    requires { Sound board.rows }
-    ensures { result ≡ sum_of board.rows }
+pub fn sum_of(board: &Board) -> u64
+    requires { Sound board.now.rows }
+    ensures { result ≡ sum_of board.now.rows }
 {
-    let mut sum: u64 = 0;
-    let mut k: usize = 0;
-    while k < ROWS {
-        let row = board.rows[k];
-        sum += row.sum;
-        k += 1;
-    }
-    sum
+    board.rows.iter().map(|row| row.sum).sum()
 }
 
 // The largest density and the longest execution.
-#[derive(Clone, Copy)]
+#[derive(Clone, Copy, Debug, PartialEq, Eq)]
 pub struct Peaks {
     pub largest: u64,
     pub longest: u64,
 }
 
 // M, the largest density of all standing nodes, and the longest of their executions.
-pub fn peaks_of(board: Board) -> Peaks
-    ensures { (result.largest ≡ largest_of board.rows) × (result.longest ≡ longest_of board.rows) }
+pub fn peaks_of(board: &Board) -> Peaks
+    ensures { (result.largest ≡ largest_of board.now.rows) × (result.longest ≡ longest_of board.now.rows) }
 {
-    let mut largest: u64 = 0;
-    let mut longest: u64 = 0;
-    let mut k: usize = 0;
-    while k < ROWS {
-        let row = board.rows[k];
-        if largest < row.largest {
-            largest = row.largest;
-        }
-        if longest < row.longest {
-            longest = row.longest;
-        }
-        k += 1;
-    }
+    let largest = board.rows.iter().map(|row| row.largest).max().unwrap_or(0);
+    let longest = board.rows.iter().map(|row| row.longest).max().unwrap_or(0);
     Peaks { largest, longest }
 }
 
 // Whether S + (m − 1) × M ≤ m × 1,000,000 for m cores.
-pub fn verdict_for(board: Board, cores: u64) -> bool
-    requires sound { Sound board.rows }
+pub fn verdict_for(board: &Board, cores: u64) -> bool
+    requires sound { Sound board.now.rows }
     requires le_cores { (1 ≤ cores) × (cores ≤ cores_max) }
-    ensures { result ≡ verdict board.rows cores }
+    ensures { result ≡ verdict board.now.rows cores }
 {
     let sum = sum_of(board);
-    let peaks = peaks_of(board);
-    sum + (cores - 1) * peaks.largest <= cores * MILLION
+    let largest = peaks_of(board).largest;
+    Load { sum, largest }.left_side(cores) <= cores * MILLION
 }

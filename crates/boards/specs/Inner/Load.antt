@@ -1,7 +1,9 @@
--- What is told of a board's densities.
-use Rattle.std.specs.Prelude.{◌≡◌, true, List}
+-- What is told of a board's densities, and what so many cores need for them.
+use Rattle.std.specs.Prelude.{◌≡◌, true, false, List, ℕ, ◌+◌, ◌-◌, ◌*◌, ◌≤◌, Option, MatchOption}
+use Rattle.tables.specs.Limits.{count_max, density_max}
 use Rattle.boards.specs.declared.Row.{Row}
 use Rattle.boards.specs.declared.loads.Load.{Load}
+use Rattle.boards.specs.Row.{rows_max}
 use Rattle.boards.specs.Sound.{is_sound}
 use Rattle.boards.specs.Verdict.{sum_of, largest_of}
 
@@ -9,7 +11,19 @@ use Rattle.boards.specs.Verdict.{sum_of, largest_of}
 abbrev pub Tallied : List Row → Load → Type 0
 Tallied rows l = (l.sum ≡ sum_of rows) × (l.largest ≡ largest_of rows)
 
--- whether the board is sound, and if so these two
-pub record LoadOf (rows : List Row) (l : Load) : Type 0 where
-  pub sound : l.sound ≡ is_sound rows
-  pub tallied : is_sound rows ≡ true → Tallied rows l
+-- these two just where the board is sound
+abbrev pub LoadOf : List Row → Option Load → Type 0
+LoadOf rows told = MatchOption told (is_sound rows ≡ false) (λ l. (is_sound rows ≡ true) × Tallied rows l)
+
+-- S of a sound board is at most
+abbrev pub sums_max : ℕ
+sums_max = rows_max * (count_max * density_max)
+
+-- S and M of a sound board
+pub record Bounded (l : Load) : Type 0 where
+  pub sum-high : l.sum ≤ sums_max
+  pub largest-high : l.largest ≤ density_max
+
+-- S + (m − 1) × M
+abbrev pub left_side : Load → ℕ → ℕ
+left_side l m = l.sum + (m - 1) * l.largest

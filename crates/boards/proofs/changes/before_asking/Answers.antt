@@ -1,32 +1,23 @@
 -- `boards::changes::before_asking` meets its contract: it asks the definition's tests in their order.
-use mathlib.Core.Path.{◌≡◌, refl, ap}
-use mathlib.Core.Bool.{true}
-use borrow.Author.Tests.{eq-eqb, ne_eqb, lt-ltb, le-ltb}
-use Rattle.refusals.specs.declared.Outcome.TheVariants.{Refused}
+use Rattle.std.proofs.Common.{◌≡◌, sym, ap, ◌∙◌, rules}
+use Rattle.std.specs.Prelude.{Err}
+use Rattle.plain.specs.Tests.{between}
+use Rattle.plain.proofs.Tests.{pick_no, passed, failed}
+use Rattle.boards.specs.Verdict.{cores_max}
 use Rattle.boards.specs.Change.{before_asking}
-use Rattle.plain.proofs.Tests.{pick_yes, pick_no}
+use Rattle.boards.proofs.Cases.{outside-refused, inside-asks}
 use Rattle.boards.proofs.changes.before_asking.Goals as goal
-use Rattle.boards.proofs.changes.before_asking.Goals.{Else-not-sound}
 
 pub returns-then-not-sound : goal.returns-then-not-sound
 unfolding before_asking
-returns-then-not-sound c = pick_no _ c.if-not-sound.true (ap Refused c.of.ensures)
+returns-then-not-sound c = pick_no _ c.if-not-sound.true (ap Err c.unsound.ensures)
 
--- past the first test
-sound : (c : Else-not-sound) → c.args.sound ≡ true
-sound c = c.if-not-sound.false
-
-pub returns-then-cores-eq0 : goal.returns-then-cores-eq0
-unfolding before_asking
-returns-then-cores-eq0 c =
-    pick_yes _ (sound (goal.at.returns-then-cores-eq0 c).Else-not-sound) (pick_yes _ (eq-eqb _ _ c.if-cores-eq0.true) (ap Refused c.of-then-cores-eq0.ensures))
-
-pub returns-then-cores-gt-CORES_MAX : goal.returns-then-cores-gt-CORES_MAX
-unfolding before_asking
-returns-then-cores-gt-CORES_MAX c =
-    pick_yes _ (sound (goal.at.returns-then-cores-gt-CORES_MAX c).Else-not-sound) (pick_no _ (ne_eqb _ _ c.if-cores-eq0.false) (pick_yes _ (lt-ltb _ _ c.if-cores-gt-CORES_MAX.true) (ap Refused c.of-then-cores-gt-CORES_MAX.ensures)))
+pub returns-then-not-contains : goal.returns-then-not-contains
+returns-then-not-contains c =
+    let e : c.contains.result ≡ between 1 c.args.cores cores_max = search rules in
+    rw c.if-not-sound.false (ap Err c.at.ensures ∙ sym (outside-refused c.args.cores (failed e c.if-not-contains.true)))
 
 pub returns : goal.returns
-unfolding before_asking
 returns c =
-    pick_yes _ (sound (goal.at.returns c).Else-not-sound) (pick_no _ (ne_eqb _ _ c.if-cores-eq0.false) (pick_no _ (le-ltb _ _ c.if-cores-gt-CORES_MAX.false) refl))
+    let e : c.contains.result ≡ between 1 c.args.cores cores_max = search rules in
+    rw c.if-not-sound.false (sym (inside-asks c.args.cores (passed e c.if-not-contains.false)))

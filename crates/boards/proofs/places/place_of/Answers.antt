@@ -1,28 +1,14 @@
--- `boards::places::place_of` meets its contract. The loop's invariant: no row below k has the id; so where row k has it, k is the lowest, and past
--- the last row none has it.
-use mathlib.Core.Path.{◌≡◌, sym, ◌∙◌}
-use native.Mathlib.Omega.{arith}
-use lib.ListN.{length}
-use borrow.Author.Count.{below_none, below_more}
-use Rattle.boards.proofs.Held.{sixteen}
-use Rattle.boards.proofs.Find.{place_is, none-place}
+-- `boards::places::place_of` meets its contract: the first position of the id is its place, where there is one.
+use Rattle.std.proofs.Common.{◌∙◌, rules, arith}
+use borrow.Author.Tests.{tests}
+use lib.Dec.{eqb}
+use Rattle.std.proofs.lemmas.Iterator.{YieldsList-from_slice}
+use Rattle.std.proofs.lemmas.Iterator.Search.{position_from_yields_List}
+use Rattle.boards.specs.declared.Row.{Row}
+use Rattle.boards.proofs.Find.{position-place}
 use Rattle.boards.proofs.places.place_of.Goals as goal
-
-pub loop-k-init : goal.loop-k-init
-loop-k-init c = (omega arith, below_none _)
-
-pub returns-then-row-id : goal.returns-then-row-id
-returns-then-row-id c =
-    let head = c.loop-k in
-    let full = sixteen c.args.board c.well_formed.0 in
-    sym (place_is c.args.id c.args.board.rows head.k (omega arith) c.if-row-id.true head.invariant.1)
-
-pub loop-k-preserved : goal.loop-k-preserved
-loop-k-preserved c = (omega arith, below_more _ _ c.loop-k.invariant.1 c.if-row-id.false)
 
 pub returns : goal.returns
 returns c =
-    let head = c.loop-k in
-    let full = sixteen c.args.board c.well_formed.0 in
-    let end : head.k ≡ length c.args.board.rows = omega arith in
-    end ∙ sym (none-place c.args.id c.args.board.rows (λ i h. head.invariant.1 i (omega arith)))
+    let rows = c.args.board.now.rows in
+    position_from_yields_List (λ (r : Row). eqb r.id c.args.id) _ _ _ c.position.ensures.ran (YieldsList-from_slice rows cc) (λ x b q k. search (rules, tests)) ∙ position-place c.args.id rows (omega arith)

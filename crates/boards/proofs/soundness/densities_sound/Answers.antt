@@ -34,11 +34,11 @@ fails : (rows : List Row) (k : ℕ) → k < rows_max → false ≡ passes rows k
 fails rows k l e = sym (all_to-false rows_max (passes rows) k l (sym e))
 
 pub loop-k-init : goal.loop-k-init
-loop-k-init c = (omega arith, all_to-none _, fill-zeros _ rows_max, λ i h. absurd (not-suc-le-zero h))
+loop-k-init c = (all_to-none _, fill-zeros _ rows_max, λ i h. absurd (not-suc-le-zero h))
 
 pub returns-then-not-densities_fit : goal.returns-then-not-densities_fit
 returns-then-not-densities_fit c =
-    fails c.args.board.rows c.loop-k.k (omega arith) (pick_no _ (failed c.densities_fit.ensures c.if-not-densities_fit.true) refl)
+    fails c.args.board.now.rows c.loop-k.k (omega arith) (pick_no _ (failed c.densities_fit.ensures c.if-not-densities_fit.true) refl)
 
 -- the array with this row's id
 more : (rows : List Row) (k : ℕ) (ids : List ℕ) → k < rows_max → Ids rows k ids → Ids rows (k + 1) (set ids k (row_at rows k).id)
@@ -50,21 +50,21 @@ new-so rows k ids e done = e ∙ new-same _ (ids_of rows) k (λ i h. done.done i
 
 pub returns-then-not-is_new : goal.returns-then-not-is_new
 returns-then-not-is_new c =
-    fails c.args.board.rows c.loop-k.k (omega arith)
-    (pick_yes _ (passed c.densities_fit.ensures c.if-not-densities_fit.false) (sym (failed (new-so c.args.board.rows c.loop-k.k _ c.is_new.ensures (more c.args.board.rows c.loop-k.k _ (omega arith) c.loop-k.invariant.2)) c.if-not-is_new.true)))
+    fails c.args.board.now.rows c.loop-k.k (omega arith)
+    (pick_yes _ (passed c.densities_fit.ensures c.if-not-densities_fit.false) (sym (failed (new-so c.args.board.now.rows c.loop-k.k _ c.is_new.ensures (more c.args.board.now.rows c.loop-k.k _ (omega arith) c.loop-k.invariant.1)) c.if-not-is_new.true)))
 
 pub loop-k-preserved : goal.loop-k-preserved
 loop-k-preserved c =
-    let rows = c.args.board.rows in
-    let ids = more rows c.loop-k.k _ (omega arith) c.loop-k.invariant.2 in
+    let rows = c.args.board.now.rows in
+    let ids = more rows c.loop-k.k _ (omega arith) c.loop-k.invariant.1 in
     let new : is_new (ids_of rows) c.loop-k.k ≡ true = elim c.else-is_member.branch [
       | else-is_member-via-then-is_member+else-not-is_new w ↦ passed (new-so rows c.loop-k.k _ w.is_new.ensures ids) w.if-not-is_new.false
-      | else-is_member-via-else-is_member w ↦ new_apart (ids_of rows) c.loop-k.k _ c.loop-k.invariant.3 (eqb-false _ _ (sym c.is_member.ensures ∙ w.if-is_member.false))
+      | else-is_member-via-else-is_member w ↦ new_apart (ids_of rows) c.loop-k.k _ c.loop-k.invariant.2 (eqb-false _ _ (sym c.is_member.ensures ∙ w.if-is_member.false))
     ] in
     let here = true-both (passed c.densities_fit.ensures c.if-not-densities_fit.false) new in
-    (omega arith, all_to-more c.loop-k.k (passes rows) ∙ true-both c.loop-k.invariant.1 here, ids, remainder-more rows c.loop-k.k _ _ c.loop-k.invariant.3 c.with_member-remainders.ensures)
+    (all_to-more c.loop-k.k (passes rows) ∙ true-both c.loop-k.invariant.0 here, ids, remainder-more rows c.loop-k.k _ _ c.loop-k.invariant.2 c.with_member-remainders.ensures)
 
 pub returns : goal.returns
 returns c =
     let end : c.loop-k.k ≡ rows_max = omega arith in
-    sym (rw end at c.loop-k.invariant.1)
+    sym (rw end at c.loop-k.invariant.0)

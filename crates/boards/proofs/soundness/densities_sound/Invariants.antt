@@ -1,7 +1,7 @@
 use mathlib.Core.Path.{◌≡◌}
 use mathlib.Core.Bool.{Bool, true}
 use mathlib.Core.List.{List}
-use Prim.Native.Nat.{ℕ, ◌-◌, ◌%◌, ◌≤◌, ◌<◌}
+use Prim.Native.Nat.{ℕ, ◌%◌, ◌<◌}
 use Rattle.plain.proofs.Lists.{Filled}
 use Rattle.sets.specs.Member.{Member}
 use Rattle.boards.specs.declared.Row.{Row}
@@ -25,7 +25,4 @@ abbrev pub Remainders : List Row → ℕ → ℕ → Type 0
 Remainders rows k s = (i : ℕ) → i < k → Member ((row_at rows i).id % 64) s
 
 abbrev pub invariant-loop-k : goal.invariant-loop-k
-invariant-loop-k l = (l.k ≤ rows_max) × (all_to l.k (passes l.board.rows) ≡ true) × Ids l.board.rows l.k l.ids × Remainders l.board.rows l.k l.remainders
-
-abbrev pub decreases-loop-k : goal.decreases-loop-k
-decreases-loop-k l = rows_max - l.k
+invariant-loop-k l = (all_to l.k (passes l.board.rows) ≡ true) × Ids l.board.rows l.k l.ids × Remainders l.board.rows l.k l.remainders

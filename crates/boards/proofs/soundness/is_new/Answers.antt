@@ -1,34 +1,22 @@
--- `boards::soundness::is_new` meets its contract: the entries passed differ from entry k, and the first that doesn't makes the test fail.
-use mathlib.Core.Path.{◌≡◌, sym, ◌∙◌}
-use native.Mathlib.Omega.{arith}
-use borrow.Author.Tests.{eq-eqb, ne_eqb}
+-- `boards::soundness::is_new` meets its contract: id 0 is new, and any other just where each of those before it differs.
+use Rattle.std.proofs.Common.{◌∙◌, rules, arith, not, take}
+use borrow.Author.Tests.{eq-eqb, ne_eqb, tests}
+use lib.Dec.{eqb}
+use Rattle.std.proofs.lemmas.Iterator.{YieldsList-from_slice}
+use Rattle.std.proofs.lemmas.Iterator.Search.{all_from_yields_List}
+use Rattle.plain.specs.At.{at}
+use Rattle.plain.proofs.Tests.{pick_no}
 use Rattle.boards.specs.Sound.{is_new}
-use Rattle.plain.proofs.Tests.{true-both, pick_no, all_to-none, all_to-more, all_to-false}
+use Rattle.boards.proofs.Sound.{others-new}
 use Rattle.boards.proofs.soundness.is_new.Goals as goal
-use Rattle.boards.proofs.soundness.is_new.Invariants.{other}
 
 pub returns-then-own-eq0 : goal.returns-then-own-eq0
 unfolding is_new
 returns-then-own-eq0 c = rw (eq-eqb _ _ c.if-own-eq0.true)
 
-pub loop-i-init : goal.loop-i-init
-loop-i-init c = (omega arith, all_to-none _)
-
-pub returns-then-ids-i : goal.returns-then-ids-i
+pub returns-else-own-eq0 : goal.returns-else-own-eq0
 unfolding is_new
-returns-then-ids-i c =
-    let a = c.args in
-    let same = eq-eqb _ _ c.if-ids-i.true in
-    pick_no _ (ne_eqb _ _ c.if-own-eq0.false) (sym (all_to-false a.k (other a.ids.now a.k) c.loop-i.i (omega arith) (rw same)))
-
-pub loop-i-preserved : goal.loop-i-preserved
-loop-i-preserved c =
-    let a = c.args in
-    let here = ne_eqb _ _ c.if-ids-i.false in
-    (omega arith, all_to-more c.loop-i.i (other a.ids.now a.k) ∙ true-both c.loop-i.invariant.1 (rw here))
-
-pub returns : goal.returns
-unfolding is_new
-returns c =
-    let end : c.loop-i.i ≡ c.args.k = omega arith in
-    pick_no _ (ne_eqb _ _ c.if-own-eq0.false) (sym (rw end at c.loop-i.invariant.1))
+returns-else-own-eq0 c =
+    let ids = c.args.ids.now in
+    let e = all_from_yields_List (λ x. not (eqb x (at ids c.args.k))) _ _ _ c.all.ensures.ran (YieldsList-from_slice (take c.args.k ids) cc) (λ x b q k. search (rules, tests)) in
+    pick_no _ (ne_eqb _ _ c.if-own-eq0.false) (e ∙ others-new ids c.args.k (omega arith))

@@ -8,6 +8,6 @@ pub returns-then-row-eq0 : goal.returns-then-row-eq0
 unfolding times_fit
 returns-then-row-eq0 c = pick_yes _ (eq-eqb _ _ c.if-row-eq0.true) c.is_untimed.ensures
 
-pub returns : goal.returns
+pub returns-else-row-eq0 : goal.returns-else-row-eq0
 unfolding times_fit
-returns c = pick_no _ (ne_eqb _ _ c.if-row-eq0.false) c.is_timed.ensures
+returns-else-row-eq0 c = pick_no _ (ne_eqb _ _ c.if-row-eq0.false) c.is_timed.ensures

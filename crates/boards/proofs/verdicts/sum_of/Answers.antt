@@ -1,30 +1,22 @@
--- `boards::verdicts::sum_of` meets its contract. The loop's invariant: the sum is that of the rows passed, which cannot wrap, because a sound row's sum
--- is at most 64 densities.
-use mathlib.Core.Path.{◌≡◌, sym}
-use native.Mathlib.Omega.{arith}
-use Rattle.plain.proofs.Sums.{sum_to-none, sum_to-more, sum-under}
-use Rattle.boards.specs.Row.{rows_max, row_at}
+-- `boards::verdicts::sum_of` meets its contract: the sum is that of all rows, which fits a word, because a sound row's sum is at most 64 densities.
+use Rattle.std.proofs.Common.{◌≡◌, ◌∙◌, ◌<◌, ◌^◌, rules, arith}
+use Rattle.std.specs.List.{sum_by}
+use Rattle.std.proofs.iter.runs.Made.{chains}
+use Rattle.boards.specs.declared.Row.{Row}
+use Rattle.boards.specs.Row.{free_row, rows_max}
 use Rattle.boards.specs.Verdict.{sum_of}
-use Rattle.boards.proofs.Sound.{sum_of-le, row-largest-le}
+use Rattle.boards.proofs.Walks.{sum-walked}
+use Rattle.boards.proofs.Sound.{sums-fit}
 use Rattle.boards.proofs.verdicts.sum_of.Goals as goal
 
-pub loop-k-init : goal.loop-k-init
-loop-k-init c = (omega arith, sym (sum_to-none _))
-
--- the sums so far leave room for any density of a sound row
-pub overflow_add-sum : goal.overflow_add-sum
-unfolding sum_of
-overflow_add-sum c =
-    let head = c.loop-k in
-    record { fits = omega (arith, sum_of-le c.requires, sum-under (λ i. (row_at c.args.board.rows i).sum) head.k rows_max (omega arith), row-largest-le c.requires head.k (omega arith)) }
-
-pub loop-k-preserved : goal.loop-k-preserved
-loop-k-preserved c =
-    let head = c.loop-k in
-    (omega arith, omega (arith, sum_to-more head.k (λ i. (row_at c.args.board.rows i).sum)))
+pub sum-requires-clause-fits : goal.sum-requires-clause-fits
+sum-requires-clause-fits c =
+    let fits : sum_by (λ (r : Row). r.sum) c.args.board.now.rows < 2 ^ 64 = sums-fit c.requires in
+    search (rules, chains)
 
 pub returns : goal.returns
 unfolding sum_of
 returns c =
-    let end : c.loop-k.k ≡ rows_max = omega arith in
-    rw end at c.loop-k.invariant.1
+    let rows = c.args.board.now.rows in
+    let e : c.sum.result ≡ sum_by (λ (r : Row). r.sum) rows = search (rules, chains) in
+    e ∙ sum-walked rows free_row (λ (r : Row). r.sum) rows_max (omega arith)
