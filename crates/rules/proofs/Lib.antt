@@ -1,4 +1,4 @@
-pub mod Turns
+pub mod Alls
 pub mod Rests
 pub mod Windows
 pub mod Asked

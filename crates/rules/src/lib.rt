@@ -103,13 +103,10 @@ pub fn same_cut(own: &[u64], plan: &[u64]) -> bool
     if plan.segments() != own.segments() {
         return false;
     }
-    for j in 0..own.segments() {
+    (0..own.segments()).all(|j| {
         let (given, cut) = (plan.segment(j), own.segment(j));
-        if given.threads != cut.threads || given.length != cut.length {
-            return false;
-        }
-    }
-    true
+        given.threads == cut.threads && given.length == cut.length
+    })
 }
 
 // 3: the numerators sum to period × Q. They are taken away from it one by one: added up, foreign ones could wrap.
@@ -163,12 +160,7 @@ pub fn summed(own: &[u64], plan: &[u64]) -> bool
 {
     let own = Plan { words: own };
     let plan = Plan { words: plan };
-    for v in 0..own.nodes() {
-        if plan.node(v).deadline != share_of(own, plan, v) {
-            return false;
-        }
-    }
-    true
+    (0..own.nodes()).all(|v| plan.node(v).deadline == share_of(own, plan, v))
 }
 
 // The greatest offset plus deadline of a node's parents, 0 without parents. The parents are met by trailing zeros: no `for`, the library has none over a
@@ -194,12 +186,7 @@ pub fn followed(own: &[u64], plan: &[u64], parents: &[u64; 64]) -> bool
 {
     let own = Plan { words: own };
     let plan = Plan { words: plan };
-    for v in 0..own.nodes() {
-        if plan.node(v).offset != parents_end(plan, parents[v]) {
-            return false;
-        }
-    }
-    true
+    (0..own.nodes()).all(|v| plan.node(v).offset == parents_end(plan, parents[v]))
 }
 
 // Whether a deadline is at least half the execution.
@@ -217,12 +204,7 @@ pub fn halved(own: &[u64], plan: &[u64], executions: &[u64; 64]) -> bool
 {
     let own = Plan { words: own };
     let plan = Plan { words: plan };
-    for v in 0..own.nodes() {
-        if !is_half(executions[v], plan.over(), plan.node(v).deadline) {
-            return false;
-        }
-    }
-    true
+    (0..own.nodes()).all(|v| is_half(executions[v], plan.over(), plan.node(v).deadline))
 }
 
 // Whether a segment's work × period × Q, here called whole, is at most twice the task's work × its numerator. These products can pass 64 bits, so
@@ -242,18 +224,15 @@ pub fn thinned(plan: &[u64], period: u64, work: u64) -> bool
 {
     let plan = Plan { words: plan };
     let whole = period * plan.over();
-    for j in 0..plan.segments() {
+    (0..plan.segments()).all(|j| {
         let segment = plan.segment(j);
-        if !is_thin(
+        is_thin(
             segment.threads * segment.length,
             whole,
             work,
             segment.numerator,
-        ) {
-            return false;
-        }
-    }
-    true
+        )
+    })
 }
 
 // 8: densities are rounded as ours.
@@ -264,11 +243,8 @@ pub fn rounded(own: &[u64], plan: &[u64], executions: &[u64; 64]) -> bool
 {
     let own = Plan { words: own };
     let plan = Plan { words: plan };
-    for v in 0..own.nodes() {
+    (0..own.nodes()).all(|v| {
         let node = plan.node(v);
-        if node.density != shares::millionths(executions[v], plan.over(), node.deadline) {
-            return false;
-        }
-    }
-    true
+        node.density == shares::millionths(executions[v], plan.over(), node.deadline)
+    })
 }

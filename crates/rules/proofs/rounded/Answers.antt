@@ -1,24 +1,26 @@
--- `rules::rounded` meets its contract: the densities passed are ours, and the first that isn't makes the test fail.
-use borrow.Author.Tests.{eq-eqb, ne_eqb}
+-- `rules::rounded` meets its contract: it asks the definition's test of each node.
+use Prim.Native.Nat.{◌≤◌}
+use borrow.Author.Tests.{tests}
+use Rattle.std.proofs.Common.{rules}
+use Rattle.std.proofs.lemmas.Iterator.{serves_from_Range}
+use Rattle.plain.specs.At.{at}
+use Rattle.tables.specs.Limits.{over_max, run_max}
+use Rattle.shares.specs.Words.{deadline_at}
+use Rattle.shares.specs.Inner.Asked.{numerator_max}
 use Rattle.rules.proofs.Asked.{over-high, deadline-low}
-use Rattle.rules.proofs.Turns.{tried-none, tried-more, tried-fails}
+use Rattle.rules.proofs.Alls.{all-below}
 use Rattle.rules.proofs.rounded.Goals as goal
 
-pub loop-v-init : goal.loop-v-init
-loop-v-init c = tried-none
-
-pub millionths-requires : goal.millionths-requires
-millionths-requires c =
+pub all-requires-clause-callable : goal.all-requires-clause-callable
+all-requires-clause-callable c =
     let asked = c.requires.by_index.3 in
-    rw (c.node-node.ensures, c.over.ensures)
-    (record { execution-high = asked.rules.executions _; over-high = over-high asked; numerator-high = deadline-low asked c.requires.plan_value _ (rw c.nodes-v-end.ensures at c.loop-v-test.true) })
+    let over : at c.args.plan.now 0 ≤ over_max = over-high asked in
+    serves_from_Range (λ x q k. search rules)
+    (λ x lo hi.
+    let deadline : deadline_at c.args.plan.now x ≤ numerator_max = deadline-low asked c.requires.plan_value x (rw c.nodes.ensures at hi) in
+    let execution : at c.args.executions.now x ≤ run_max = asked.rules.executions x in
+    let same = asked.rules.same_nodes in
+    search (rules, same))
 
-pub returns-then-node-millionths : goal.returns-then-node-millionths
-returns-then-node-millionths c =
-    let other = rw (c.millionths.ensures, c.node-node.ensures, c.over.ensures) at c.if-node-millionths.true in
-    tried-fails c.loop-v.invariant (rw c.nodes-v-end.ensures at c.loop-v-test.true) (ne_eqb _ _ other)
-
-pub loop-v-preserved : goal.loop-v-preserved
-loop-v-preserved c =
-    let same = rw (c.millionths.ensures, c.node-node.ensures, c.over.ensures) at c.if-node-millionths.false in
-    tried-more c.loop-v.invariant (rw c.nodes-v-end.ensures at c.loop-v-test.true) (eq-eqb _ _ same)
+pub returns : goal.returns
+returns c = all-below _ _ c.all.ensures.ran (rw c.nodes.ensures) (λ x b q k. search (rules, tests))
