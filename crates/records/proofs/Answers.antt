@@ -17,15 +17,15 @@ use Rattle.plain.specs.Pick.{pick}
 use Rattle.plain.specs.At.{at}
 use Rattle.plain.proofs.Lists.{lt-or-ge, at-replicate}
 use Rattle.refusals.specs.declared.Refusal.{Refusal}
-use Rattle.refusals.specs.declared.Outcome.TheVariants.{Accepted, Refused}
 use Rattle.tables.specs.declared.TaskTable.{TaskTable}
 use Rattle.tables.specs.Limits.{count_max, execution_max}
 use Rattle.tables.specs.Table.{empty_table}
 use Rattle.tables.specs.Runs.{AllZero, SomeRuns}
 use Rattle.tables.specs.Range.{InRange}
+use Rattle.std.specs.Prelude.{Ok, Err}
 use Rattle.numbers.proofs.Cases.{clash}
 use Rattle.records.specs.declared.Reading.{Reading}
-use Rattle.records.specs.Nodes.{with_node}
+use Rattle.records.specs.Nodes.{with_table, with_node}
 use Rattle.records.specs.Reading.{headed, reading_of}
 use Rattle.records.specs.Expected.{Due, range, Next, node_from, after, Expects, Spelt}
 use Rattle.records.specs.Expected.Due.{edition, id, period, count, execution, parent_count, parent}
@@ -169,16 +169,20 @@ all-zero-edition {t = t} e z = let f = whole-table e in ⊎_elim
     (lt-or-ge 1 t.edition)
 
 -- the same by the reading's outcome
-pub accepted-table : (s : List ℕ) → (reading_of s).outcome ≡ Accepted → InRange (reading_of s).table
+pub accepted-table : (s : List ℕ) → (reading_of s).outcome ≡ Ok tt → InRange (reading_of s).table
 accepted-table s e = by (comes s)
   where
     by : Comes s → InRange (reading_of s).table
     by (refuses f) = clash (let q = ap (λ (x : Reading). x.outcome) (sym (rule-refused s f)) ∙ e in cc)
     by (spells f) = rw (spelt-read s f) (spelt-range f)
 
-pub refused-table : (s : List ℕ) (r : Refusal) → (reading_of s).outcome ≡ Refused r → (reading_of s).table ≡ empty_table
+pub refused-table : (s : List ℕ) (r : Refusal) → (reading_of s).outcome ≡ Err r → (reading_of s).table ≡ empty_table
 refused-table s r e = by (comes s)
   where
     by : Comes s → (reading_of s).table ≡ empty_table
     by (refuses f) = rw (rule-refused s f)
     by (spells f) = clash (let q = ap (λ (x : Reading). x.outcome) (sym (spelt-read s f)) ∙ e in cc)
+
+-- and of a table that the inner reader returned
+pub table-range : (s : List ℕ) (t : TaskTable) → with_table (Ok t) ≡ reading_of s → InRange t
+table-range s t e = let d : (reading_of s).table ≡ t = ap (λ (x : Reading). x.table) (sym e) in rw d at (accepted-table s (ap (λ (x : Reading). x.outcome) (sym e)))

@@ -13,85 +13,67 @@ use Rattle.tables.specs.declared.TaskTable.{TaskTable}
 use Rattle.tables.specs.Limits.{execution_max, least_execution}
 use Rattle.tables.specs.Runs.{all_zero}
 use Rattle.plain.proofs.Lists.{part-from}
+use Rattle.std.specs.Prelude.{Result, Err}
 use Rattle.numbers.specs.declared.Number.{Number}
+use Rattle.numbers.specs.declared.Fault.{Fault}
 use Rattle.numbers.specs.Number.{number}
-use Rattle.records.specs.declared.Step.{Step}
-use Rattle.records.specs.declared.Step.TheVariants.{Read, Refused}
 use Rattle.refusals.specs.Refusal.{refusal}
-use Rattle.records.specs.Step.{and_then}
-use Rattle.records.specs.declared.Two.{Two}
-use Rattle.records.specs.Inner.Two.{two_of}
+use Rattle.records.specs.Step.{Step, read, and_then}
 use Rattle.records.specs.Ranged.{step_of, whole_in, ranged_in, ranged}
 use Rattle.records.specs.Parents.{parents, parent_set}
 use Rattle.records.specs.Nodes.{table_read, no_table, with_node, unless_all_zero, nothing_follows, nodes}
 
 -- a step that read, and one that refused
-pub then-read : {A : Type 0} (out : Refusal → A) (step : Step) (more : ℕ → ℕ → A) (v next : ℕ) → step ≡ Read v next →
+pub then-read : {A : Type 0} (out : Refusal → A) (step : Step) (more : ℕ → ℕ → A) (v next : ℕ) → step ≡ read v next →
     and_then out step more ≡ more v next
 unfolding and_then
 then-read out step more v next e = rw e
 
-pub then-refused : {A : Type 0} (out : Refusal → A) (step : Step) (more : ℕ → ℕ → A) (r : Refusal) → step ≡ Refused r → and_then out step more ≡ out r
+pub then-refused : {A : Type 0} (out : Refusal → A) (step : Step) (more : ℕ → ℕ → A) (r : Refusal) → step ≡ Err r → and_then out step more ≡ out r
 unfolding and_then
 then-refused out step more r e = rw e
 
 -- a refusal is the same whatever would have come after it
 pub then-out : {A : Type 0} (out : Refusal → A) (step found : Step) (more instead : ℕ → ℕ → A) (r : Refusal) →
-    found ≡ step → found ≡ Refused r → and_then out found instead ≡ and_then out step more
+    found ≡ step → found ≡ Err r → and_then out found instead ≡ and_then out step more
 then-out out step found more instead r e d = then-refused _ _ _ _ d ∙ sym (then-refused _ _ _ _ (sym e ∙ d))
 
--- two steps in a row, told as a pair: where the first read, where it was refused, and what comes after both
-pub two-read : (step : Step) (then : ℕ → Step) (v next : ℕ) → step ≡ Read v next → two_of step then ≡ record { value = v; step = then next }
-two-read step then v next e = rw e
-
-pub two-refused : (step : Step) (then : ℕ → Step) (r : Refusal) → step ≡ Refused r → two_of step then ≡ record { value = 0; step = Refused r }
-two-refused step then r e = rw e
-
-pub then-two : {A : Type 0} (out : Refusal → A) (step : Step) (then : ℕ → Step) (more : ℕ → ℕ → ℕ → A) (found : Two) → found ≡ two_of step then →
-    and_then out step (λ v next. and_then out (then next) (more v)) ≡ and_then out found.step (more found.value)
-unfolding and_then
-then-two out step then more found e = by step ∙ ap (λ (x : Two). and_then out x.step (more x.value)) (sym e)
-  where
-    by : (s : Step) → and_then out s (λ v next. and_then out (then next) (more v)) ≡ and_then out (two_of s then).step (more (two_of s then).value)
-    by (Read v next) = refl
-    by (Refused r) = refl
-
 -- what the number reader found in the part that it was handed
-pub whole_is : (more : ℕ) (s : List ℕ) (at : ℕ) (found : Number) → found ≡ number more (take (length s - at) (drop at s)) →
+pub whole_is : (more : ℕ) (s : List ℕ) (at : ℕ) (found : Result Number Fault) → found ≡ number more (take (length s - at) (drop at s)) →
     step_of (length s) at found ≡ whole_in more s at
 unfolding whole_in
 whole_is more s at found e = ap (step_of (length s) at) (e ∙ ap (number more) (part-from at s))
 
 -- a number that is not whole; one that is, outside its range and in it
-pub ranged-refused : (more broken low high : ℕ) (s : List ℕ) (at : ℕ) (r : Refusal) → whole_in more s at ≡ Refused r →
-    ranged_in more broken low high s at ≡ Refused r
+pub ranged-refused : (more broken low high : ℕ) (s : List ℕ) (at : ℕ) (r : Refusal) → whole_in more s at ≡ Err r →
+    ranged_in more broken low high s at ≡ Err r
 unfolding ranged_in
 ranged-refused more broken low high s at r e = then-refused _ _ _ _ e
 
-module _ (more broken low high : ℕ) (s : List ℕ) (at v next : ℕ) (e : whole_in more s at ≡ Read v next) where
-  pub ranged-out : (v < low) ⊎ (high < v) → ranged_in more broken low high s at ≡ Refused (refusal broken at)
+module _ (more broken low high : ℕ) (s : List ℕ) (at v next : ℕ) (e : whole_in more s at ≡ read v next) where
+  pub ranged-out : (v < low) ⊎ (high < v) → ranged_in more broken low high s at ≡ Err (refusal broken at)
   unfolding ranged_in
   ranged-out h = then-read _ _ _ _ _ e ∙ ⊎_elim (λ l. simp (lt-leb low v l)) (λ g. simp (lt-leb v high g, and-false)) h
 
-  pub ranged-in : low ≤ v → v ≤ high → ranged_in more broken low high s at ≡ Read v next
+  pub ranged-in : low ≤ v → v ≤ high → ranged_in more broken low high s at ≡ read v next
   unfolding ranged_in
   ranged-in l g = then-read _ _ _ _ _ e ∙ simp (le-leb low v l, le-leb v high g)
 
 -- no parent left, and one more; and where that one was read
 module _ (n low set : ℕ) (s : List ℕ) (at : ℕ) where
-  pub parents-none : (k : ℕ) → k ≤ 0 → parents k n low set s at ≡ Read set at
+  pub parents-none : (k : ℕ) → k ≤ 0 → parents k n low set s at ≡ read set at
   unfolding parents
   parents-none zero h = refl
   parents-none (suc k) h = absurd (omega arith)
 
   pub parents-more : (k : ℕ) → 0 < k → parents k n low set s at ≡
-      and_then Refused (ranged bad_parent low (n - 1) s at) λ p next.
+      and_then Err (ranged bad_parent low (n - 1) s at) λ p next.
       parents (k - 1) n (p + 1) (set + 2 ^ p) s next
   unfolding parents
   parents-more zero h = absurd (omega arith)
   parents-more (suc k) h = let e : suc k - 1 ≡ k = omega arith in rw e
 
-  pub parents-next : (k p next : ℕ) → 0 < k → ranged bad_parent low (n - 1) s at ≡ Read p next →
+  pub parents-next : (k p next : ℕ) → 0 < k → ranged bad_parent low (n - 1) s at ≡ read p next →
       parents k n low set s at ≡ parents (k - 1) n (p + 1) (set + 2 ^ p) s next
   parents-next k p next h e = parents-more k h ∙ then-read _ _ _ _ _ e
 

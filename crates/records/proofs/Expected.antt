@@ -15,7 +15,6 @@ use Rattle.plain.specs.Pick.{pick}
 use Rattle.plain.proofs.Lists.{lt-or-ge}
 use Rattle.refusals.specs.declared.Refusal.{Refusal}
 use Rattle.refusals.specs.Refusal.{refusal}
-use Rattle.refusals.specs.declared.Outcome.TheVariants as outcome
 use Rattle.refusals.specs.Numbers.{ended, too_long, bad_edition, bad_id, bad_period, bad_count, bad_execution, not_shortest}
 use Rattle.refusals.specs.Readers.{is_in, is_readers}
 use Rattle.tables.specs.declared.TaskTable.{TaskTable}
@@ -24,12 +23,11 @@ use Rattle.tables.specs.Runs.{all_zero}
 use Rattle.tables.proofs.Runs.{zero-all, all-zero, runs-some, some_runs}
 use Rattle.numbers.specs.Number.{record_more}
 use Rattle.numbers.specs.Form.{Whole, Ends, Long, Padded}
+use Rattle.std.specs.Prelude.{Result, Ok, Err, ⊤}
 use Rattle.numbers.proofs.Forms as forms
 use Rattle.numbers.proofs.Cases.{clash}
-use Rattle.records.specs.declared.Step.{Step}
-use Rattle.records.specs.declared.Step.TheVariants.{Read, Refused}
 use Rattle.records.specs.declared.Reading.{Reading}
-use Rattle.records.specs.Step.{and_then}
+use Rattle.records.specs.Step.{Step, read, and_then}
 use Rattle.records.specs.Ranged.{step_of, whole_in, ranged}
 use Rattle.records.specs.Parents.{parents, parent_set}
 use Rattle.records.specs.Nodes.{table_read, no_table, with_node, nothing_follows, nodes}
@@ -45,14 +43,14 @@ use Rattle.records.proofs.Cases.{then-read, then-refused, ranged-refused, ranged
 then_same : {A : Type 0} (out : Refusal → A) (step : Step) (more instead : ℕ → ℕ → A) → ((v next : ℕ) → more v next ≡ instead v next) →
     and_then out step more ≡ and_then out step instead
 unfolding and_then
-then_same out (Read v next) more instead e = e v next
-then_same out (Refused r) more instead e = refl
+then_same out (Ok r) more instead e = e r.value r.next
+then_same out (Err r) more instead e = refl
 
 then-then : {A : Type 0} (out : Refusal → A) (step : Step) (then : ℕ → ℕ → Step) (more : ℕ → ℕ → A) →
-    and_then out (and_then Refused step then) more ≡ and_then out step (λ v next. and_then out (then v next) more)
+    and_then out (and_then Err step then) more ≡ and_then out step (λ v next. and_then out (then v next) more)
 unfolding and_then
-then-then out (Read v next) then more = refl
-then-then out (Refused r) then more = refl
+then-then out (Ok r) then more = refl
+then-then out (Err r) then more = refl
 
 -- what reading still does from a place on: from the node count, from the period, from the id, after a node's parents
 from_count : ℕ → ℕ → ℕ → List ℕ → ℕ → Reading
@@ -108,19 +106,19 @@ onward-step s at (parent t i e left low set) = then-then _ _ _ _ ∙ then_same _
 
 -- the number at a place, by its form
 module _ (more : ℕ) (s : List ℕ) (at : ℕ) where
-  pub whole-read : {v n : ℕ} → Whole more (drop at s) v n → whole_in more s at ≡ Read v (at + n)
+  pub whole-read : {v n : ℕ} → Whole more (drop at s) v n → whole_in more s at ≡ read v (at + n)
   unfolding whole_in
   whole-read (f, h) = ap (step_of (length s) at) (forms.whole-read more f h)
 
-  pub ends_read : Ends more (drop at s) → whole_in more s at ≡ Refused (refusal ended (length s))
+  pub ends_read : Ends more (drop at s) → whole_in more s at ≡ Err (refusal ended (length s))
   unfolding whole_in
   ends_read (k, h, l) = ap (step_of (length s) at) (forms.ends_read more l h)
 
-  pub long-read : Long more (drop at s) → whole_in more s at ≡ Refused (refusal too_long at)
+  pub long-read : Long more (drop at s) → whole_in more s at ≡ Err (refusal too_long at)
   unfolding whole_in
   long-read (rest, l) = ap (step_of (length s) at) (forms.long-read more l)
 
-  pub padded-read : Padded more (drop at s) → whole_in more s at ≡ Refused (refusal not_shortest at)
+  pub padded-read : Padded more (drop at s) → whole_in more s at ≡ Err (refusal not_shortest at)
   unfolding whole_in
   padded-read (k, rest, z, h, l) = ap (step_of (length s) at) (forms.padded-read more l z h).2
 
@@ -128,7 +126,7 @@ module _ (more : ℕ) (s : List ℕ) (at : ℕ) where
 abbrev pub ByRule : ((number place : ℕ) → Type 0) → Refusal → Type 0
 ByRule rule r = rule r.number r.place × (r ≡ refusal r.number r.place)
 
-pub by-rule : (rule : (number place : ℕ) → Type 0) {k place : ℕ} {r : Refusal} → rule k place → outcome.Refused (refusal k place) ≡ outcome.Refused r → ByRule rule r
+pub by-rule : (rule : (number place : ℕ) → Type 0) {k place : ℕ} {r : Refusal} → rule k place → ◌≡◌ {A = Result ⊤ Refusal} (Err (refusal k place)) (Err r) → ByRule rule r
 by-rule rule {k} {place} {r} f e = let d : refusal k place ≡ r = cc in subst (ByRule rule) d (f, refl)
 
 module _ (s : List ℕ) where
@@ -140,7 +138,7 @@ module _ (s : List ℕ) where
       reached e ∙ onward-step s at d ∙ then-read _ _ _ _ _ (ranged-in record_more _ _ _ s at v (at + n) (whole-read record_more s at w) l h)
 
   -- so what is refused by a rule is refused by that number at that place, and what spells a table is read as it
-  stops : {at : ℕ} {d : Due} {r : Refusal} → Expects s at (number d) → ranged (range d).broken (range d).low (range d).high s at ≡ Refused r → reading_of s ≡ no_table r
+  stops : {at : ℕ} {d : Due} {r : Refusal} → Expects s at (number d) → ranged (range d).broken (range d).low (range d).high s at ≡ Err r → reading_of s ≡ no_table r
   stops {at} {d} e q = reached e ∙ onward-step s at d ∙ then-refused _ _ _ _ q
 
   pub rule-refused : {k place : ℕ} → Refuses s k place → reading_of s ≡ no_table (refusal k place)
@@ -199,7 +197,7 @@ module _ (s : List ℕ) where
   comes = comes-from (length s) 0 (number edition) (omega arith) begin
 
   -- and so a refusal is by its rule, and a table that is read is the one that is spelt
-  pub refused-rule : (r : Refusal) → (reading_of s).outcome ≡ outcome.Refused r → ByRule (Refuses s) r
+  pub refused-rule : (r : Refusal) → (reading_of s).outcome ≡ Err r → ByRule (Refuses s) r
   refused-rule r q = by comes
     where
       by : Comes → ByRule (Refuses s) r
@@ -237,5 +235,5 @@ rule_told (outside {due = d} e w o) = record { own = own_range d; place = reache
 rule_told (follow e h) = record { own = refl; place = reached-inside _ e }
 rule_told (nothing_runs e z) = record { own = refl; place = zero-le }
 
-pub refused-told : (s : List ℕ) (r : Refusal) → (reading_of s).outcome ≡ outcome.Refused r → Told (length s) r
+pub refused-told : (s : List ℕ) (r : Refusal) → (reading_of s).outcome ≡ Err r → Told (length s) r
 refused-told s r q = let w = refused-rule s r q in rw w.1 (rule_told w.0)

@@ -13,40 +13,37 @@ use borrow.Author.Tests.{leb-true}
 use Rattle.plain.specs.Pick.{pick}
 use Rattle.plain.proofs.Lists.{part-from}
 use Rattle.refusals.specs.Numbers.{bad_parent}
+use Rattle.std.specs.Prelude.{Result, Ok, Err}
 use Rattle.numbers.specs.declared.Number.{Number}
-use Rattle.numbers.specs.declared.Number.TheVariants.{Value, Ended, TooLong, NotShortest}
-use Rattle.numbers.specs.Number.{number, record_more}
+use Rattle.numbers.specs.declared.Fault.{Fault}
+use Rattle.numbers.specs.declared.Fault.TheVariants.{Ended, TooLong, NotShortest}
+use Rattle.numbers.specs.Number.{number, worth, record_more}
 use Rattle.numbers.proofs.Bounds.{value-bounded}
-use Rattle.numbers.proofs.Cases.{clash}
-use Rattle.records.specs.declared.Step.{Step}
-use Rattle.records.specs.declared.Step.TheVariants.{Read, Refused}
 use Rattle.refusals.specs.Refusal.{refusal}
-use Rattle.records.specs.Step.{and_then}
-use Rattle.records.specs.declared.Two.{Two}
-use Rattle.records.specs.Inner.Two.{two_of}
-use Rattle.records.specs.Ranged.{step_of, whole_in, ranged_in, ranged}
+use Rattle.records.specs.Step.{Step, read, and_then}
+use Rattle.records.specs.Ranged.{step_of, whole_in, ranged_in}
 use Rattle.records.specs.Parents.{parents, parent_set}
 
 -- a step inside an input of `size` bytes, with a value that is as P says
 abbrev pub Inside : ℕ → (ℕ → Type 0) → Step → Type 0
-Inside size P (Read v next) = P v × (next ≤ size)
-Inside size P (Refused r) = Unit
+Inside size P (Ok r) = P r.value × (r.next ≤ size)
+Inside size P (Err r) = Unit
 
 -- a step after a step
 then-step : (size : ℕ) (P Q : ℕ → Type 0) (step : Step) (more : ℕ → ℕ → Step) → Inside size P step →
     ((v next : ℕ) → P v → next ≤ size → Inside size Q (more v next)) →
-    Inside size Q (and_then Refused step more)
+    Inside size Q (and_then Err step more)
 unfolding and_then
-then-step size P Q (Read v next) more i m = m v next i.0 i.1
-then-step size P Q (Refused r) more i m = tt
+then-step size P Q (Ok r) more i m = m r.value r.next i.0 i.1
+then-step size P Q (Err r) more i m = tt
 
 -- a step that read
-pub read-inside : (size : ℕ) (P : ℕ → Type 0) (step : Step) (v next : ℕ) → step ≡ Read v next → Inside size P step → P v × (next ≤ size)
+pub read-inside : (size : ℕ) (P : ℕ → Type 0) (step : Step) (v next : ℕ) → step ≡ read v next → Inside size P step → P v × (next ≤ size)
 read-inside size P step v next e i = rw e at i
 
 -- what the number reader found in the part that it was handed ends inside the input
-pub found_inside : (more : ℕ) (s : List ℕ) (at : ℕ) (found : Number) → found ≡ number more (take (length s - at) (drop at s)) → at ≤ length s →
-    (v n : ℕ) → found ≡ Value v n → at + n ≤ length s
+pub found_inside : (more : ℕ) (s : List ℕ) (at : ℕ) (found : Result Number Fault) → found ≡ number more (take (length s - at) (drop at s)) → at ≤ length s →
+    (v n : ℕ) → found ≡ Ok (worth v n) → at + n ≤ length s
 found_inside more s at found e h v n d =
     let b = value-bounded more (drop at s) v n (ap (number more) (sym (part-from at s)) ∙ sym e ∙ d) in
     omega (arith, b.within, length-drop at s)
@@ -56,11 +53,11 @@ pub whole-inside : (more : ℕ) (s : List ℕ) (at : ℕ) → at ≤ length s �
 unfolding whole_in
 whole-inside more s at h = by (number more (drop at s)) refl
   where
-    by : (r : Number) → number more (drop at s) ≡ r → Inside (length s) (λ v. v < 128 ^ suc more) (step_of (length s) at r)
-    by (Value v n) e = let b = value-bounded more (drop at s) v n e in (b.value, omega (arith, b.within, length-drop at s))
-    by Ended e = tt
-    by TooLong e = tt
-    by (NotShortest v n) e = tt
+    by : (r : Result Number Fault) → number more (drop at s) ≡ r → Inside (length s) (λ v. v < 128 ^ suc more) (step_of (length s) at r)
+    by (Ok r) e = let b = value-bounded more (drop at s) r.value r.length e in (b.value, omega (arith, b.within, length-drop at s))
+    by (Err Ended) e = tt
+    by (Err TooLong) e = tt
+    by (Err (NotShortest r)) e = tt
 
 pub ranged-inside : (more broken low high : ℕ) (s : List ℕ) (at : ℕ) → at ≤ length s →
     Inside (length s) (λ v. (low ≤ v) × (v ≤ high)) (ranged_in more broken low high s at)
@@ -70,7 +67,7 @@ ranged-inside more broken low high s at a =
     by v next h (leb low v) (leb v high) refl refl
   where
     by : (v next : ℕ) → next ≤ length s → (l g : Bool) → leb low v ≡ l → leb v high ≡ g →
-        Inside (length s) (λ v. (low ≤ v) × (v ≤ high)) (pick (l && g) (Read v next) (Refused (refusal broken at)))
+        Inside (length s) (λ v. (low ≤ v) × (v ≤ high)) (pick (l && g) (read v next) (Err (refusal broken at)))
     by v next h true true p q = ((leb-true low v p, leb-true v high q), h)
     by v next h true false p q = tt
     by v next h false true p q = tt
@@ -78,30 +75,18 @@ ranged-inside more broken low high s at a =
 
 -- a number that the code read and that passed its range
 pub record Passed (more broken low high : ℕ) (s : List ℕ) (at v next : ℕ) : Type 0 where
-  pub is : ranged_in more broken low high s at ≡ Read v next
+  pub is : ranged_in more broken low high s at ≡ read v next
   pub least : low ≤ v
   pub most : v ≤ high
   pub inside : next ≤ length s
 
 pub passed : (more broken low high : ℕ) (s : List ℕ) (at : ℕ) (found : Step) (v next : ℕ) →
-    found ≡ ranged_in more broken low high s at → found ≡ Read v next → at ≤ length s →
+    found ≡ ranged_in more broken low high s at → found ≡ read v next → at ≤ length s →
     Passed more broken low high s at v next
 passed more broken low high s at found v next e d a =
-    let q : ranged_in more broken low high s at ≡ Read v next = sym e ∙ d in
+    let q : ranged_in more broken low high s at ≡ read v next = sym e ∙ d in
     let i = read-inside (length s) (λ v. (low ≤ v) × (v ≤ high)) _ v next q (ranged-inside more broken low high s at a) in
     record { is = q; least = i.0.0; most = i.0.1; inside = i.1 }
-
--- the second of two numbers that the code read, from the place after the first
-pub two-passed : (broken high wrong most : ℕ) (s : List ℕ) (at : ℕ) (found : Two) (w next : ℕ) →
-    found ≡ two_of (ranged broken 1 high s at) (ranged wrong 1 most s) → found.step ≡ Read w next →
-    at ≤ length s → (place : ℕ) × Passed record_more wrong 1 most s place w next
-two-passed broken high wrong most s at found w next e d a = by (ranged broken 1 high s at) refl e
-  where
-    by : (step : Step) → ranged broken 1 high s at ≡ step → found ≡ two_of step (ranged wrong 1 most s) → (place : ℕ) × Passed record_more wrong 1 most s place w next
-    by (Read v place) q e =
-        let p = passed record_more broken 1 high s at _ v place refl q a in
-        (place, passed record_more wrong 1 most s place found.step w next (ap (λ (x : Two). x.step) e) d p.inside)
-    by (Refused r) q e = clash (let z : Refused r ≡ Read w next = ap (λ (x : Two). x.step) (sym e) ∙ d in cc)
 
 -- a set of numbers below low has room for p
 pub set_room : (set low p : ℕ) → set < 2 ^ low → low ≤ p → set + 2 ^ p < 2 ^ (p + 1)

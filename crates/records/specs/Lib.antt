@@ -4,4 +4,3 @@ pub mod Parents
 pub mod Nodes
 pub mod Reading
 pub mod Expected
-pub mod Inner

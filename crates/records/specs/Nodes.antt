@@ -1,5 +1,5 @@
 -- The nodes of a record, and what reading comes to.
-use Rattle.std.specs.Prelude.{ℕ, zero, suc, ◌+◌, List, length, set, ltb}
+use Rattle.std.specs.Prelude.{ℕ, zero, suc, ◌+◌, List, length, set, ltb, Result, Ok, Err}
 use Rattle.plain.specs.Pick.{pick}
 use Rattle.refusals.specs.declared.Refusal.{Refusal}
 use Rattle.refusals.specs.Numbers.{bad_execution, bytes_follow, none_runs}
@@ -7,7 +7,6 @@ use Rattle.tables.specs.declared.TaskTable.{TaskTable}
 use Rattle.tables.specs.Limits.{execution_max, least_execution}
 use Rattle.tables.specs.Table.{empty_table}
 use Rattle.tables.specs.Runs.{all_zero}
-use Rattle.refusals.specs.declared.Outcome.TheVariants.{Accepted, Refused}
 use Rattle.records.specs.declared.Reading.{Reading}
 use Rattle.refusals.specs.Refusal.{refusal}
 use Rattle.records.specs.Step.{and_then}
@@ -16,11 +15,16 @@ use Rattle.records.specs.Parents.{parent_set}
 
 -- "The table read from a record"
 abbrev pub table_read : TaskTable → Reading
-table_read t = record { outcome = Accepted; table = t }
+table_read t = record { outcome = Ok tt; table = t }
 
 -- "A refusal returns its number and place, and with them, from any reader of a table, a table that is all zeros"
 abbrev pub no_table : Refusal → Reading
-no_table r = record { outcome = Refused r; table = empty_table }
+no_table r = record { outcome = Err r; table = empty_table }
+
+-- the two of what an inner step returns: the table, or the refusal
+abbrev pub with_table : Result TaskTable Refusal → Reading
+with_table (Ok t) = table_read t
+with_table (Err r) = no_table r
 
 -- the table with node i's execution and its parent set, "a set being one 64-bit word"
 abbrev pub with_node : TaskTable → ℕ → ℕ → ℕ → TaskTable

@@ -1,27 +1,27 @@
 -- `records::read_parent_set` meets its contract: the count is read first, and then that many parents.
-use mathlib.Core.Path.{sym, ◌∙◌}
+use mathlib.Core.Path.{refl, sym, ◌∙◌}
 use native.Mathlib.Omega.{arith}
 use Rattle.refusals.specs.Numbers.{bad_parent}
+use Rattle.refusals.proofs.Out.{goes-out}
 use Rattle.numbers.specs.Number.{record_more}
 use Rattle.records.specs.Parents.{parent_set}
 use Rattle.records.proofs.Cases.{then-read, then-refused}
 use Rattle.records.proofs.Inside.{Passed, passed}
 use Rattle.records.proofs.read_parent_set.Goals as goal
-use Rattle.records.proofs.read_parent_set.Goals.{In-Read}
+use Rattle.records.proofs.read_parent_set.Goals.{In_ok-count}
 
-pub returns-in_default : goal.returns-in_default
+pub returns-in_err-count : goal.returns-in_err-count
 unfolding parent_set
-returns-in_default c = let e = c.in_default.is in
-    e ∙ sym (then-refused _ _ _ _ (sym c.read_ranged-step.ensures ∙ e))
+returns-in_err-count c = goes-out _ _ c.from_residual.ensures.1 ∙ sym (then-refused _ _ _ _ (sym c.in_err-count.ensures))
 
 -- the parent count
-count : (c : In-Read) → (let a = c.args in
-    Passed record_more bad_parent 0 a.n a.bytes.now a.at c.in-Read.count c.in-Read.next)
-count c = passed _ _ _ _ _ _ _ _ _ c.read_ranged-step.ensures c.in-Read.is (omega arith)
+count : (c : In_ok-count) → (let a = c.args in
+    Passed record_more bad_parent 0 a.n a.bytes.now a.at c.in_ok-count.count.value c.in_ok-count.count.next)
+count c = passed _ _ _ _ _ _ _ _ _ c.in_ok-count.ensures refl (omega arith)
 
 pub read_parents-requires : goal.read_parents-requires
-read_parents-requires c = let p = count (goal.at.read_parents-requires c).In-Read in omega arith
+read_parents-requires c = let p = count (goal.at.read_parents-requires c).In_ok-count in omega arith
 
 pub returns : goal.returns
 unfolding parent_set
-returns c = c.read_parents.ensures ∙ sym (then-read _ _ _ _ _ (count (goal.at.returns c).In-Read).is)
+returns c = c.read_parents.ensures ∙ sym (then-read _ _ _ _ _ (count (goal.at.returns c).In_ok-count).is)
