@@ -10,11 +10,14 @@ use Rattle.tables.specs.declared.TaskTable.{TaskTable}
 use Rattle.ways.proofs.Totals.{work-le}
 use Rattle.segments.specs.Cut.{length_of}
 use Rattle.segments.specs.Inner.Ended.{length_by, CutIn}
+use Rattle.segments.specs.Inner.Listed.{threads_of, enders_of}
 use Rattle.segments.specs.Inner.Words.{CutWords}
 use Rattle.segments.proofs.Cuts.{cut_step}
 use Rattle.segments.proofs.Segments.{segments-le}
 use Rattle.segments.proofs.Running.{threads-word}
 use Rattle.diagrams.proofs.Times.{times-are-cuts}
+use Rattle.sweeps.specs.declared.Trace.{Trace}
+use Rattle.shares.specs.declared.Times.{Times}
 use Rattle.shares.specs.Inner.Asked.{DealIn}
 use Rattle.shares.specs.Deal.{deal}
 use Rattle.shares.specs.Words.{threads_at, length_at}
@@ -37,18 +40,22 @@ holds-deal {t} {w} ok first second l = record {
   threads = λ j h. rw (first j h) (threads-word t.count (start t) (finish t) j);
 }
 
-module _ {t : TaskTable} {n T C s P : ℕ} {m en e : List ℕ} (d : SegmentsOf t n T C s P m en e) where
+module _ {t : TaskTable} {n s : ℕ} {times : Times} {trace : Trace} (d : SegmentsOf t n s times trace) where
   -- the path is the table's
-  pub path-so : P ≡ path t
+  pub path-so : times.path ≡ path t
   path-so = d.cut_up.path-is ∙ sym (path-latest t)
 
-  -- so is each length
-  length-so : (j : ℕ) → j < s → length_by en e j ≡ length_in t j
+  -- there are no more segments than nodes
+  pub few : s ≤ 64
+  few = let most = segments-le t.count (finish t) in let nodes = d.table.range.count-high in omega (arith, d.cut_up.count)
+
+  -- each length is the table's
+  length-so : (j : ℕ) → j < s → length_by (enders_of trace.segments) trace.finishes j ≡ length_in t j
   unfolding length_of
   length-so j h = ap₂ ◌-◌ (times-are-cuts d.cut_up (suc j) h) (times-are-cuts d.cut_up j (omega arith))
 
   -- what the writer of the segments asks
-  pub cut_in : {room : ℕ} → words_max ≤ room → CutIn m en e s room
+  pub cut_in : {room : ℕ} → words_max ≤ room → CutIn (threads_of trace.segments) (enders_of trace.segments) trace.finishes s room
   cut_in l =
       let few = segments-le t.count (finish t) in
       let most = d.table.range.count-high in
@@ -62,7 +69,7 @@ module _ {t : TaskTable} {n T C s P : ℕ} {m en e : List ℕ} (d : SegmentsOf t
       }
 
   -- what it leaves
-  pub words-so : {w₀ w : List ℕ} → CutWords (at m) (length_by en e) s w₀ w → CutWords (threads_in t) (length_in t) (segment_count t) w₀ w
+  pub words-so : {w₀ w : List ℕ} → CutWords (at (threads_of trace.segments)) (length_by (enders_of trace.segments) trace.finishes) s w₀ w → CutWords (threads_in t) (length_in t) (segment_count t) w₀ w
   words-so c = rw (← d.cut_up.count) (record {
     room = c.room;
     first = λ j h. c.first j h ∙ d.cut_up.threads-are j h;
@@ -74,9 +81,9 @@ module _ {t : TaskTable} {n T C s P : ℕ} {m en e : List ℕ} (d : SegmentsOf t
 
   module _ {w₀ w : List ℕ} (c : CutWords (threads_in t) (length_in t) (segment_count t) w₀ w) where
     -- the table's own deal
-    pub deal-so : deal T C P s (threads_at w) (length_at w) ≡ deal_of t
+    pub deal-so : deal times.period times.work times.path s (threads_at w) (length_at w) ≡ deal_of t
     deal-so = rw (d.cut_up.count, d.period, d.work, path-so) (deal-same t.period (work t) (path t) (segment_count t) (threads_at w) (length_at w) (threads_in t) (length_in t) c.first c.second)
 
     -- what the deal asks
-    pub deal-in : words_max ≤ length w → DealIn w s T C P
+    pub deal-in : words_max ≤ length w → DealIn w s times.period times.work times.path
     deal-in l = rw (d.cut_up.count, d.period, d.work, path-so) (holds-deal d.table c.first c.second l)

@@ -17,6 +17,7 @@ use Rattle.ways.proofs.Totals.{work-le}
 use Rattle.segments.proofs.Segments.{segments-le}
 use Rattle.segments.proofs.Shares.{share-by}
 use Rattle.diagrams.proofs.Spans.{by-start, by-finish}
+use Rattle.sweeps.specs.declared.Trace.{Trace}
 use Rattle.shares.specs.Inner.Asked.{SumsIn, NodesIn, numerator_max}
 use Rattle.shares.specs.Density.{millionths}
 use Rattle.shares.specs.Triples.{triples}
@@ -45,7 +46,7 @@ front-holds t w e =
     let whole = sym (take-append-drop (3 + 3 * segment_count t) w) ∙ ap (λ (l : List ℕ). l ++ drop (3 + 3 * segment_count t) w) e in
     rw whole (triples-hold (threads_in t) (length_in t) (numerator_of t) (segment_count t) (over t ∷ segment_count t ∷ t.count ∷ []) (drop (3 + 3 * segment_count t) w) refl)
 
-module _ {t : TaskTable} {n : ℕ} {f z X w : List ℕ} (d : NodesOf t n f z X w) where
+module _ {t : TaskTable} {n : ℕ} {trace : Trace} {X w : List ℕ} (d : NodesOf t n trace X w) where
   ok : Planned t
   ok = d.table
 
@@ -84,21 +85,21 @@ module _ {t : TaskTable} {n : ℕ} {f z X w : List ℕ} (d : NodesOf t n f z X w
     summed : (j : ℕ) → j ≤ segment_count t → at D j ≡ sum_to j (numerator_of t)
     summed j l = at_cut j (rw segments-read l) ∙ sum_same j (numerator_at w) (numerator_of t) (λ k g. h.numerators k (omega arith))
 
-    offsets : (v : ℕ) → v < t.count → offset_by D f v ≡ offset t v
-    offsets v l = summed (at f v) (d.spanned.first v l).0 ∙ sym (by-start d.spanned (numerator_of t) v l) ∙ sym (offset-by ok v l)
+    offsets : (v : ℕ) → v < t.count → offset_by D trace.first v ≡ offset t v
+    offsets v l = summed (at trace.first v) (d.spanned.first v l).0 ∙ sym (by-start d.spanned (numerator_of t) v l) ∙ sym (offset-by ok v l)
 
-    ends : (v : ℕ) → v < t.count → at D (at z v) ≡ offset t v + deadline t v
+    ends : (v : ℕ) → v < t.count → at D (at trace.last v) ≡ offset t v + deadline t v
     unfolding deadline
     ends v l =
         let a = offset-by ok v l in
         let b = share-by (drawn ok) (numerator_of t) v l in
-        summed (at z v) (d.spanned.last v l).0 ∙ sym (by-finish d.spanned (numerator_of t) v l) ∙ omega arith
+        summed (at trace.last v) (d.spanned.last v l).0 ∙ sym (by-finish d.spanned (numerator_of t) v l) ∙ omega arith
 
-    deadlines : (v : ℕ) → v < t.count → span_by D f z v ≡ deadline t v
+    deadlines : (v : ℕ) → v < t.count → span_by D trace.first trace.last v ≡ deadline t v
     deadlines v l = let a = offsets v l in let b = ends v l in omega arith
 
     -- what the writer of the node part asks
-    pub nodes-in : {words : ℕ} → 3 * n ≤ words → NodesIn D f z X n (at w 0) words
+    pub nodes-in : {words : ℕ} → 3 * n ≤ words → NodesIn D trace.first trace.last X n (at w 0) words
     nodes-in k = rw (d.count, d.executions) (record {
       count = ok.range.count-high;
       room = rw d.count at k;
@@ -112,7 +113,7 @@ module _ {t : TaskTable} {n : ℕ} {f z X w : List ℕ} (d : NodesOf t n f z X w
     })
 
     -- the triples that it writes
-    pub nodes-so : triples (offset_by D f) (span_by D f z) (λ v. millionths (at X v) (at w 0) (span_by D f z v)) n ≡ node_words t
+    pub nodes-so : triples (offset_by D trace.first) (span_by D trace.first trace.last) (λ v. millionths (at X v) (at w 0) (span_by D trace.first trace.last v)) n ≡ node_words t
     unfolding node_words density
     nodes-so = rw (d.count, d.executions) (triples-same _ _ _ (offset t) (deadline t) (density t) t.count offsets deadlines (λ v l. rw (deadlines v l, over-read)))
 

@@ -1,20 +1,20 @@
 -- A table without a loop has a timing diagram. Where its path fits the period, the cut gives the shares what they ask: the segments' lengths sum
 -- to the path, their threads times lengths to the work, none is empty or idle, and there is one, because some node runs.
+use Rattle.std.specs.Prelude.{Ok}
 use mathlib.Core.Path.{◌≡◌, refl, sym, ◌∙◌}
 use mathlib.Core.Bool.{false}
 use mathlib.Core.List.{List}
 use Prim.Native.Nat.{ℕ, ◌≤◌, ◌<◌}
 use native.Mathlib.Omega.{arith}
 use Rattle.plain.specs.At.{at}
-use Rattle.refusals.specs.declared.Outcome.TheVariants.{Accepted as Read}
 use Rattle.tables.specs.declared.TaskTable.{TaskTable}
 use Rattle.tables.specs.Limits.{cost_max}
 use Rattle.tables.specs.Cost.{costed}
 use Rattle.tables.specs.Inner.Plannable.{Plannable}
 use Rattle.tables.proofs.Cost.{costed-range, plannable}
-use Rattle.records.specs.declared.Reading.{Reading}
+use Rattle.records.specs.Nodes.{with_table}
 use Rattle.records.specs.Reading.{reading_of}
-use Rattle.records.proofs.Answers.{accepted-table}
+use Rattle.records.proofs.Answers.{table-range}
 use Rattle.ways.specs.Reaches.{Reaches}
 use Rattle.ways.specs.Inner.Tidy.{Tidy}
 use Rattle.ways.specs.Closure.{loops}
@@ -89,8 +89,8 @@ module _ {t : TaskTable} (ok : Planned t) where
   cutting = segmented ok.range ok.free t.period ok.fits
 
 -- a table that was read can be planned with any cost in range
-pub read-plannable : (bytes : List ℕ) {r : Reading} {cost : ℕ} → r ≡ reading_of bytes → (reading_of bytes).outcome ≡ Read → cost ≤ cost_max → Plannable (costed r.table cost)
-read-plannable bytes is read allowed = rw is (plannable (costed-range (accepted-table bytes read) allowed))
+pub read-plannable : (bytes : List ℕ) {table : TaskTable} {cost : ℕ} → with_table (Ok table) ≡ reading_of bytes → cost ≤ cost_max → Plannable (costed table cost)
+read-plannable bytes is allowed = plannable (costed-range (table-range bytes _ is) allowed)
 
 -- every accepted table has a plan
 pub plans-accepted : {t : TaskTable} → Accepted t → Planned t

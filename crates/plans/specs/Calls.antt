@@ -1,10 +1,8 @@
 -- Planning as one definition: 26 "before all others"; "Planning checks 16, then" the reader's refusals "as met, then 10, 11."
-use Rattle.std.specs.Prelude.{List, ℕ, ltb, length}
+use Rattle.std.specs.Prelude.{List, ℕ, Result, Ok, Err, ⊤, ltb, length}
 use Rattle.plain.specs.Pick.{pick}
 use Rattle.refusals.specs.Numbers.{long_path, few_words, high_cost}
 use Rattle.refusals.specs.declared.Refusal.{Refusal}
-use Rattle.refusals.specs.declared.Outcome.{Outcome}
-use Rattle.refusals.specs.declared.Outcome.TheVariants as outcome
 use Rattle.refusals.specs.Refusal.{refusal, on_outcome}
 use Rattle.refusals.specs.Answer.{accepted, refused}
 use Rattle.refusals.specs.After.{After}
@@ -18,8 +16,8 @@ use Rattle.plans.specs.Diagram.{path, segment_count}
 use Rattle.plans.specs.Words.{word_count, words_max, written}
 
 -- the rules that planning, noting and admitting try first: 26, "cost above 255, before all others"; 16, "the lent plan has fewer than 387 words"
-unfoldable pub before_reading : (words cost : ℕ) → Outcome
-before_reading words cost = pick (ltb cost_max cost) (outcome.Refused (refusal high_cost 0)) (pick (ltb words words_max) (outcome.Refused (refusal few_words 0)) outcome.Accepted)
+unfoldable pub before_reading : (words cost : ℕ) → Result ⊤ Refusal
+before_reading words cost = pick (ltb cost_max cost) (Err (refusal high_cost 0)) (pick (ltb words words_max) (Err (refusal few_words 0)) (Ok tt))
 
 -- refusal 10 of a table, with "the smallest node that is reached from itself" and "a loop through it"
 abbrev pub loop_in : TaskTable → Refusal

@@ -18,12 +18,6 @@ returns c = λ t d. (
   whole-plan d (nodes-so d c.sums_of-sums.result c.sums_of-sums.ensures) c.fill_nodes.ensures,
 )
 
-pub bounds-words-0 : goal.bounds-words-0
-bounds-words-0 c = let p = c.requires.1.room in omega arith
-
-pub bounds-words-1 : goal.bounds-words-1
-bounds-words-1 c = let p = c.requires.1.room in omega arith
-
 pub sums_of-sums-requires : goal.sums_of-sums-requires
 sums_of-sums-requires c = sums-in c.requires.1
 
