@@ -13,6 +13,7 @@ use lib.Dec.{eqb, lit<}
 use borrow.Author.Tests.{eqb-true, eqb-false}
 use Rattle.plain.specs.Pick.{pick}
 use Rattle.sets.specs.Member.{bit, Member, is_member}
+use Rattle.sets.specs.Inner.Last.{Last}
 use Rattle.sets.specs.Inner.Put.{with_member}
 
 pub bit_le : (k s : ℕ) → bit k s ≤ 1
@@ -153,6 +154,20 @@ mem-lt (suc d) (suc k) s h m = suc-le-suc (mem-lt d k (s / 2) half m)
 
     half : s / 2 < 2 ^ d
     half = let h3 = h2 in omega arith
+
+-- the last member's power is the greatest within the word
+bit-top : (k s : ℕ) → 2 ^ k ≤ s → s < 2 ^ suc k → bit k s ≡ 1
+unfolding bit
+bit-top zero s a b = omega arith
+bit-top (suc k) s a b =
+    let low : 2 ^ k * 2 ≤ s = rw pow-suc at a in
+    let high : s < 2 ^ suc k * 2 = rw (pow-suc 2 (suc k)) at b in
+    bit-top k (s / 2) (omega arith) (omega arith)
+
+pub greatest_power : (k s : ℕ) → k < 64 → 2 ^ k ≤ s → s < 2 * 2 ^ k → Last k s
+greatest_power k s low a b =
+    let high : s < 2 ^ suc k = rw (pow-suc 2 k) (omega arith) in
+    record { low = low; mem = bit-top k s a high; top = λ j m. le_of_suc-le-suc (mem-lt (suc k) j s high m) }
 
 -- two numbers with the same digits are one
 half-eq : (a b : ℕ) → a / 2 ≡ b / 2 → a % 2 ≡ b % 2 → a ≡ b

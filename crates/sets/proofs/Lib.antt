@@ -5,5 +5,4 @@ pub mod Walks
 pub mod Rule
 pub mod Words
 pub mod Without
-mod Runs
 pub mod Below

@@ -22,7 +22,7 @@ pub fn with_member(s: u64, k: usize) -> u64
     requires { k < 64 }
     ensures { result ≡ with_member k s }
 {
-    s | (1u64 << k)
+    s | (1 << k)
 }
 
 // s with k left out.
@@ -30,14 +30,14 @@ pub fn without_member(s: u64, k: usize) -> u64
     requires { k < 64 }
     ensures { result ≡ without_member k s }
 {
-    s & !(1u64 << k)
+    s & !(1 << k)
 }
 
 // The number of members.
 pub fn size_of(s: u64) -> u64
     ensures { result ≡ size s }
 {
-    u64::count_ones(s) as u64
+    u64::from(s.count_ones())
 }
 
 // All numbers below n.
@@ -45,24 +45,13 @@ pub fn all_below(n: usize) -> u64
     requires { n ≤ 64 }
     ensures { result ≡ set_of n (λ k. 1) }
 {
-    if n < 64 { (1u64 << n) - 1 } else { u64::MAX }
+    if n < 64 { (1 << n) - 1 } else { u64::MAX }
 }
 
-// The last member of a set that has one. The members are walked by trailing zeros, a run of neighbours at a step: once the zeros below a run
-// are filled, adding 1 leaves as many zeros as there are numbers up to the run's end.
+// The last member of a set that has one.
 pub fn last_of(s: u64) -> usize
     requires { s ≡ 0 → ⊥ }
     ensures { Last result s }
 {
-    let mut left = s;
-    let mut past: usize = 0;
-    while left != 0 {
-        let filled = left | (left - 1);
-        if filled == u64::MAX {
-            return 63;
-        }
-        past = u64::trailing_zeros(filled + 1) as usize;
-        left = left & (filled + 1);
-    }
-    past - 1
+    s.ilog2() as usize
 }

@@ -53,10 +53,7 @@ impl TaskTable {
 pub fn least_execution(edition: u64) -> u64
     ensures { result ≡ least_execution edition }
 {
-    if edition == 1 {
-        return 1;
-    }
-    0
+    if edition == 1 { 1 } else { 0 }
 }
 
 // Whether the first n executions are all 0.
@@ -64,14 +61,7 @@ pub fn all_zero(executions: &[u64], n: usize) -> bool
     requires { n ≤ length executions.now }
     ensures { result ≡ all_zero executions.now n }
 {
-    let mut v: usize = 0;
-    while v < n {
-        if executions[v] != 0 {
-            return false;
-        }
-        v += 1;
-    }
-    true
+    executions[..n].iter().all(|written| *written == 0)
 }
 
 // A node's execution, with the cost of its dispatch; a join pays nothing.
@@ -79,10 +69,7 @@ fn with_cost(written: u64, cost: u64) -> u64
     requires { with_cost cost written ≤ run_max }
     ensures { result ≡ with_cost cost written }
 {
-    if written == 0 {
-        return 0;
-    }
-    written + cost
+    if written == 0 { 0 } else { written + cost }
 }
 
 // The executions of n nodes, each with the cost; past them stands 0, which stays.
@@ -90,10 +77,8 @@ pub fn add_cost(executions: &mut [u64; 64], n: usize, cost: u64)
     requires { (n ≤ count_max) × ((v : ℕ) → with_cost cost (at executions.old v) ≤ run_max) × ((v : ℕ) → n ≤ v → at executions.old v ≡ 0) }
     ensures { executions.new ≡ map (with_cost cost) executions.old }
 {
-    let mut v: usize = 0;
-    while v < n {
-        executions[v] = with_cost(executions[v], cost);
-        v += 1;
+    for execution in executions[..n].iter_mut() {
+        *execution = with_cost(*execution, cost);
     }
 }
 

@@ -6,9 +6,6 @@ use Rattle.sets.proofs.Bits.{one_shl}
 use Rattle.sets.proofs.Words.{all-word}
 use Rattle.sets.proofs.all_below.Goals as goal
 
-pub overflow_sub-result : goal.overflow_sub-result
-overflow_sub-result c = let n = c.args.n in omega (arith, one_shl n c.if-n-lt64.true, all-word n)
-
 pub returns-then-n-lt64 : goal.returns-then-n-lt64
 returns-then-n-lt64 c = let n = c.args.n in omega (arith, one_shl n c.if-n-lt64.true, all-word n)
 
