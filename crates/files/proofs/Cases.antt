@@ -1,44 +1,54 @@
 -- What stands at a place, case by case: each test that the code makes picks one clause.
-use mathlib.Core.Path.{◌≡◌, refl, ap, ◌∙◌}
+use mathlib.Core.Path.{◌≡◌, sym, ap, ◌∙◌}
 use mathlib.Core.List.{List}
-use Prim.Native.Nat.{ℕ, ◌+◌, ◌≤◌, ◌<◌}
-use lib.ListN.{length, drop}
+use Prim.Native.Nat.{ℕ, ◌+◌, ◌-◌, ◌≤◌, ◌<◌}
+use native.Mathlib.Omega.{arith}
+use lib.ListN.{length, take, drop, length-drop}
+use Rattle.std.specs.Prelude.{Result, Ok, Err}
 use borrow.Author.Tests.{le-leb, lt-leb}
+use Rattle.plain.proofs.Lists.{part-from}
 use Rattle.refusals.specs.Numbers.{ended}
 use Rattle.refusals.specs.declared.Refusal.{Refusal}
 use Rattle.refusals.specs.Refusal.{refusal}
 use Rattle.numbers.specs.declared.Number.{Number}
-use Rattle.numbers.specs.declared.Number.TheVariants.{Value, Ended, TooLong, NotShortest}
+use Rattle.numbers.specs.declared.Fault.{Fault}
 use Rattle.numbers.specs.Number.{number, record_more}
-use Rattle.records.specs.declared.Step.TheVariants.{Read, Refused}
+use Rattle.numbers.proofs.Bounds.{value-bounded}
+use Rattle.records.specs.Step.{read}
 use Rattle.records.specs.Ranged.{step_of}
 use Rattle.records.proofs.Cases.{then-read, then-refused}
 use Rattle.files.specs.File.{length_at, record_at}
-use Rattle.files.specs.Inner.Fault.{fault_of}
 
 -- a length by what is found there
-pub length-is : (file : List ℕ) (at : ℕ) (r : Number) → number record_more (drop at file) ≡ r → length_at file at ≡ step_of at at r
+pub length-is : (file : List ℕ) (at : ℕ) (r : Result Number Fault) → number record_more (drop at file) ≡ r → length_at file at ≡ step_of at at r
 unfolding length_at
 length-is file at r e = ap (step_of at at) e
 
--- 1, 2 and 18 stand at the length alike
-pub length-fault : (file : List ℕ) (at : ℕ) (r : Number) → number record_more (drop at file) ≡ r → ((v n : ℕ) → r ≡ Value v n → ⊥) → length_at file at ≡ Refused (refusal (fault_of r) at)
-length-fault file at (Value v n) e none = absurd (none v n refl)
-length-fault file at Ended e none = length-is file at Ended e
-length-fault file at TooLong e none = length-is file at TooLong e
-length-fault file at (NotShortest v n) e none = length-is file at (NotShortest v n) e
+-- as the reader is handed the part from there on
+module _ (file : List ℕ) (at : ℕ) where
+  abbrev pub Found : Result Number Fault → Type 0
+  Found r = r ≡ number record_more (take (length file - at) (drop at file))
+
+  there : (r : Result Number Fault) → Found r → number record_more (drop at file) ≡ r
+  there r e = ap (number record_more) (sym (part-from at file)) ∙ sym e
+
+  pub length-found : (r : Result Number Fault) → Found r → step_of at at r ≡ length_at file at
+  length-found r e = sym (length-is file at r (there r e))
+
+  pub length-inside : (n : Number) → Found (Ok n) → at ≤ length file → at + n.length ≤ length file
+  length-inside n e h = omega (arith, (value-bounded record_more _ _ _ (there (Ok n) e)).within, length-drop at file)
 
 -- a damaged length
-pub length-refused : (file : List ℕ) (at : ℕ) {r : Refusal} → length_at file at ≡ Refused r → record_at file at ≡ Refused r
+pub length-refused : (file : List ℕ) (at : ℕ) {r : Refusal} → length_at file at ≡ Err r → record_at file at ≡ Err r
 unfolding record_at
 length-refused file at e = then-refused _ _ _ _ e
 
 -- a length that was read: its record runs past the file's end, or is there
-module _ (file : List ℕ) (at size begin : ℕ) (e : length_at file at ≡ Read size begin) where
-  pub record-past : length file < begin + size → record_at file at ≡ Refused (refusal ended (length file))
+module _ (file : List ℕ) (at size begin : ℕ) (e : length_at file at ≡ read size begin) where
+  pub record-past : length file < begin + size → record_at file at ≡ Err (refusal ended (length file))
   unfolding record_at
   record-past h = then-read _ _ _ _ _ e ∙ simp (lt-leb _ _ h)
 
-  pub record-here : begin + size ≤ length file → record_at file at ≡ Read size begin
+  pub record-here : begin + size ≤ length file → record_at file at ≡ read size begin
   unfolding record_at
   record-here h = then-read _ _ _ _ _ e ∙ simp (le-leb _ _ h)

@@ -1,3 +1,2 @@
 pub mod File
 pub mod Laid
-pub mod Inner

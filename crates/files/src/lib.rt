@@ -1,40 +1,41 @@
 // Walks a file of records, each preceded by its length.
 #![tactic(auto)]
 
-ghost use Rattle.std.specs.Prelude.{◌≡◌, ◌+◌, ◌≤◌, length};
-ghost use Rattle.files.specs.File.{record_at, part_of};
-ghost use Rattle.files.specs.Inner.Fault.{fault_of};
+ghost use Rattle.std.specs.Prelude.{◌≡◌, ◌+◌, ◌≤◌, length, IfOk};
+ghost use Rattle.files.specs.File.{length_at, record_at, part_of};
 
-use numbers::Number;
-use records::Step;
-use refusals::Refusal;
+use numbers::Fault;
+use records::Read;
+use refusals::{Reason, Refusal};
 
-// The refusal of what was found for a number; a value has none.
-fn fault_of(found: Number) -> u64
-    ensures { result ≡ fault_of found }
+// The length of the record at a place, and the place after it. A fault of the length stands at its place, whatever it is.
+fn length_at(file: &[u8], at: usize) -> Result<Read, Refusal>
+    requires { at ≤ length file.now }
+    ensures value { result ≡ length_at file.now at }
+    ensures within { IfOk result (λ r. r.next ≤ length file.now) }
 {
-    match found {
-        Number::Value { .. } => 0,
-        Number::Ended => Refusal::ENDED,
-        Number::TooLong => Refusal::TOO_LONG,
-        Number::NotShortest { .. } => Refusal::NOT_SHORTEST,
+    match numbers::read_number(&file[at..]) {
+        Ok(size) => Ok(Read {
+            value: size.value,
+            next: at + size.length,
+        }),
+        Err(Fault::Ended) => Err(Reason::Ended.at(at)),
+        Err(Fault::TooLong) => Err(Reason::TooLong.at(at)),
+        Err(Fault::NotShortest(_)) => Err(Reason::NotShortest.at(at)),
     }
 }
 
 // What stands at a place: a record, with its length as the value and its first byte as the next place; or the refusal that ends the walk.
-pub fn record_at(file: &[u8], at: usize) -> Step
+pub fn record_at(file: &[u8], at: usize) -> Result<Read, Refusal>
     requires { at ≤ length file.now }
     ensures { result ≡ record_at file.now at }
 {
-    let found = numbers::read_number(&file[at..]);
-    let Number::Value { value, length } = found else {
-        return Step::Refused(Refusal::of(fault_of(found), at));
-    };
-    let next = at + length;
-    if ((file.len() - next) as u64) < value {
-        return Step::Refused(Refusal::of(Refusal::ENDED, file.len()));
+    let record = length_at(file, at)?;
+    let left = (file.len() - record.next) as u64;
+    if left < record.value {
+        return Err(Reason::Ended.at(file.len()));
     }
-    Step::Read { value, next }
+    Ok(record)
 }
 
 // The record itself: the part of the file that it occupies.
