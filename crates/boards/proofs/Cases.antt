@@ -112,3 +112,7 @@ may-ask rows m = by (before rows m)
     by (unsound u) e = absurd (let z : ◌≡◌ {A = ℕ} 0 1 = cc in omega arith)
     by (outside s c) e = absurd (let z : ◌≡◌ {A = ℕ} 0 1 = cc in omega arith)
     by (asks s l h) e = (s, (l, h))
+
+-- and there they are not
+pub asks-where : (rows : List Row) (m : ℕ) → is_sound rows ≡ true → (1 ≤ m) × (m ≤ cores_max) → before_asking (is_sound rows) m ≡ Ok tt
+asks-where rows m s h = rw s (inside-asks m (true-between 1 m cores_max h.0 h.1))

@@ -4,14 +4,16 @@
 ghost use Rattle.std.specs.Prelude.{◌≡◌, replicate};
 ghost use Rattle.boards.specs.Row.{free_row, rows_max};
 
+mod asking;
 mod changes;
 mod loads;
 mod places;
 mod soundness;
 mod verdicts;
 
-pub use changes::{asked, asked_by, before_asking, told_place, unsound, with_row, withdrawn};
-pub use loads::{Load, load_of};
+pub use asking::{Asking, asked, asked_by, before_asking};
+pub use changes::{told_place, unsound, with_row, withdrawn};
+pub use loads::Load;
 pub use places::place_of;
 pub use soundness::{densities_sound, is_sound, times_sound};
 pub use verdicts::{Peaks, peaks_of, sum_of};

@@ -1,10 +1,8 @@
-// S and M of a board, and what so many cores need for them.
-ghost use Rattle.std.specs.Prelude.{◌≡◌, ◌≤◌};
-ghost use Rattle.boards.specs.Verdict.{cores_max};
-ghost use Rattle.boards.specs.Inner.Load.{LoadOf, Bounded, left_side};
+// S and M of a board, and the left side of a verdict.
+ghost use Rattle.std.specs.Prelude.{◌≡◌};
+ghost use Rattle.boards.specs.Inner.Load.{Tallied, Bounded, left_side};
 
-use crate::Board;
-use crate::soundness::is_sound;
+use crate::asking::Asking;
 use crate::verdicts::{peaks_of, sum_of};
 
 // The sum of all densities and the largest of them.
@@ -14,24 +12,22 @@ pub struct Load {
     pub largest: u64,
 }
 
-impl Load {
-    // S + (m − 1) × M, the left side of a verdict for m cores.
-    pub fn left_side(self, cores: u64) -> u64
-        requires { Bounded self × (1 ≤ cores) × (cores ≤ cores_max) }
-        ensures { result ≡ left_side self cores }
+impl Asking<'_> {
+    // Those of the board.
+    pub fn load(self) -> Load
+        ensures tallied { Tallied self.entry.board.now.rows result }
+        ensures bounded { Bounded result }
     {
-        self.sum + (cores - 1) * self.largest
+        let sum = sum_of(self.board);
+        let largest = peaks_of(self.board).largest;
+        Load { sum, largest }
     }
-}
 
-// The load of a sound board; nothing is told of any other.
-pub fn load_of(board: &Board) -> Option<Load>
-    ensures { LoadOf board.now.rows result }
-{
-    if !is_sound(board) {
-        return None;
+    // S + (m − 1) × M for a load on m cores.
+    pub fn left_side(self, load: Load) -> u64
+        requires { Bounded load }
+        ensures { result ≡ left_side load self.entry.cores }
+    {
+        load.sum + (self.cores - 1) * load.largest
     }
-    let sum = sum_of(board);
-    let largest = peaks_of(board).largest;
-    Some(Load { sum, largest })
 }

@@ -1,10 +1,10 @@
 // The verdict of a sound board.
-ghost use Rattle.std.specs.Prelude.{◌≡◌, ◌≤◌};
+ghost use Rattle.std.specs.Prelude.{◌≡◌};
 ghost use Rattle.boards.specs.Sound.{Sound};
-ghost use Rattle.boards.specs.Verdict.{sum_of, largest_of, longest_of, verdict, cores_max};
+ghost use Rattle.boards.specs.Verdict.{sum_of, largest_of, longest_of, verdict};
 
 use crate::Board;
-use crate::loads::Load;
+use crate::asking::Asking;
 use tables::MILLION;
 
 // S: the sum over all standing nodes.
@@ -32,12 +32,8 @@ pub fn peaks_of(board: &Board) -> Peaks
 }
 
 // Whether S + (m − 1) × M ≤ m × 1,000,000 for m cores.
-pub fn verdict_for(board: &Board, cores: u64) -> bool
-    requires sound { Sound board.now.rows }
-    requires le_cores { (1 ≤ cores) × (cores ≤ cores_max) }
-    ensures { result ≡ verdict board.now.rows cores }
+pub fn verdict_for(asking: Asking) -> bool
+    ensures { result ≡ verdict asking.entry.board.now.rows asking.entry.cores }
 {
-    let sum = sum_of(board);
-    let largest = peaks_of(board).largest;
-    Load { sum, largest }.left_side(cores) <= cores * MILLION
+    asking.left_side(asking.load()) <= asking.cores * MILLION
 }

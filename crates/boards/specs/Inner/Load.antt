@@ -1,19 +1,14 @@
 -- What is told of a board's densities, and what so many cores need for them.
-use Rattle.std.specs.Prelude.{◌≡◌, true, false, List, ℕ, ◌+◌, ◌-◌, ◌*◌, ◌≤◌, Option, MatchOption}
+use Rattle.std.specs.Prelude.{◌≡◌, List, ℕ, ◌+◌, ◌-◌, ◌*◌, ◌≤◌}
 use Rattle.tables.specs.Limits.{count_max, density_max}
 use Rattle.boards.specs.declared.Row.{Row}
 use Rattle.boards.specs.declared.loads.Load.{Load}
 use Rattle.boards.specs.Row.{rows_max}
-use Rattle.boards.specs.Sound.{is_sound}
 use Rattle.boards.specs.Verdict.{sum_of, largest_of}
 
 -- S and M
 abbrev pub Tallied : List Row → Load → Type 0
 Tallied rows l = (l.sum ≡ sum_of rows) × (l.largest ≡ largest_of rows)
-
--- these two just where the board is sound
-abbrev pub LoadOf : List Row → Option Load → Type 0
-LoadOf rows told = MatchOption told (is_sound rows ≡ false) (λ l. (is_sound rows ≡ true) × Tallied rows l)
 
 -- S of a sound board is at most
 abbrev pub sums_max : ℕ

@@ -1,5 +1,5 @@
 use Rattle.boards.specs.Verdict.{verdict}
-use Rattle.boards.proofs.changes.asked.Given as goal
+use Rattle.boards.proofs.asking.asked.Given as goal
 
 abbrev pub ghost-asked_by : goal.ghost-asked_by
 ghost-asked_by a = verdict

@@ -6,7 +6,7 @@ use Rattle.plain.proofs.Tests.{pick_no, passed, failed}
 use Rattle.boards.specs.Verdict.{cores_max}
 use Rattle.boards.specs.Change.{before_asking}
 use Rattle.boards.proofs.Cases.{outside-refused, inside-asks}
-use Rattle.boards.proofs.changes.before_asking.Goals as goal
+use Rattle.boards.proofs.asking.before_asking.Goals as goal
 
 pub returns-then-not-sound : goal.returns-then-not-sound
 unfolding before_asking
