@@ -2,32 +2,29 @@
 #![tactic(auto)]
 
 ghost use Rattle.std.specs.Prelude.{◌≡◌, ◌≤◌, length};
-ghost use Rattle.texts.specs.Inner.Wrote.{Wrote};
-ghost use Rattle.sheets.specs.Sheet.{sheet_max};
+ghost use Rattle.texts.specs.Inner.Page.{Puts};
 ghost use Rattle.sheets.specs.Printed.{printed};
+ghost use Rattle.sheets.specs.Inner.Printable.{SheetRoom};
 ghost use Rattle.mendlines.specs.Line.{mend_line};
 
 use menders::Mending;
 use refusals::Refusal;
-use sheets::SHEET_MAX;
-use texts::Triple;
+use texts::Page;
 
 // The counts, or the refusal.
-fn put_mending(out: &mut [u8], mending: Mending) -> usize
-    requires { sheet_max ≤ length out.old }
-    ensures { Wrote 0 (mend_line mending) out.old out.new result }
+fn put_mending(page: &mut Page, mending: Mending)
+    requires { SheetRoom page.old }
+    ensures { Puts page.old (mend_line mending) page.new }
 {
-    let answer = mending.answer;
-    if answer.refusal != 0 {
-        return sheets::put_refusal(out, Refusal::told_by(answer));
+    if mending.answer.refusal != 0 {
+        return sheets::put_refusal(page, Refusal::told_by(mending.answer));
     }
     let counts = mending.counts;
-    let numbers = Triple {
-        x: counts.padded,
-        y: counts.reordered,
-        z: counts.dropped,
-    };
-    texts::put_line_of_three(out, 0, b"padded ", b"reordered ", b"dropped ", numbers)
+    page.put_line(&[
+        (b"padded ", counts.padded),
+        (b"reordered ", counts.reordered),
+        (b"dropped ", counts.dropped),
+    ]);
 }
 
 // The line of a mending; a smaller buffer than SHEET_MAX is left as it is.
@@ -35,8 +32,5 @@ pub fn line(mending: Mending, out: &mut [u8]) -> usize
     ensures out_after { record { count = result; out = out.new } ≡ printed (mend_line mending) out.old }
     ensures upper_bound { result ≤ length out.old }
 {
-    if out.len() < SHEET_MAX {
-        return 0;
-    }
-    put_mending(out, mending)
+    sheets::print(out, |page| put_mending(page, mending))
 }

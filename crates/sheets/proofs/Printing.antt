@@ -13,28 +13,24 @@ use Rattle.plans.specs.Words.{words_max, written}
 use Rattle.plans.specs.Inner.Planned.{Planned}
 use Rattle.plans.proofs.Figures.{plan-fits, figures-in}
 use Rattle.plans.proofs.Read.{at-segments, at-nodes}
-use Rattle.texts.specs.Inner.Wrote.{Wrote}
+use Rattle.texts.specs.declared.Page.{Page}
+use Rattle.texts.specs.Inner.Page.{Puts}
 use Rattle.sheets.specs.Sheet.{sheet_max}
-use Rattle.sheets.specs.Printed.{printed}
+use Rattle.sheets.specs.Printed.{Prints}
 use Rattle.sheets.specs.Inner.Printable.{Printable}
 
 -- the text under another name
-pub wrote-same : {at end : ℕ} {text text' out out₁ : List ℕ} → text ≡ text' → Wrote at text out out₁ end → Wrote at text' out out₁ end
-wrote-same e w = rw e at w
-
--- what `sheet` promises
-abbrev pub Prints : (text out : List ℕ) (r : ℕ) (after : List ℕ) → Type 0
-Prints text out r after = (record { count = r; out = after } ≡ printed text out) × (r ≤ length out)
+pub puts-same : {text text' : List ℕ} {p q : Page} → text ≡ text' → Puts p text q → Puts p text' q
+puts-same e w = rw e at w
 
 -- a buffer with room, and one without
-module _ (text out : List ℕ) where
-  pub prints : {r : ℕ} {after : List ℕ} → sheet_max ≤ length out → Wrote 0 text out after r → Prints text out r after
-  prints {r} h w =
-      let e : r ≡ length text = omega (arith, w.ends) in
-      (rw (le-ltb (length out) sheet_max h, e, w.reads), omega (arith, w.room.fits))
+pub prints : {text after : List ℕ} {p q : Page} → p.end ≡ 0 → sheet_max ≤ length p.out.now → Puts p text q → after ≡ q.out.now → Prints text p.out.now q.end after
+prints {text} {p = p} {q = q} start h w same =
+    let e : q.end ≡ length text = omega (arith, w.wrote.ends) in
+    (rw (same, le-ltb (length p.out.now) sheet_max h, e, w.wrote.reads, start), omega (arith, w.wrote.room.fits))
 
-  pub leaves : length out < sheet_max → Prints text out 0 out
-  leaves h = (rw (lt-ltb (length out) sheet_max h), omega arith)
+pub leaves : (text : List ℕ) {out : List ℕ} → length out < sheet_max → Prints text out 0 out
+leaves text {out} h = (rw (lt-ltb (length out) sheet_max h), omega arith)
 
 -- room for n triples in the words from a place on
 pub part_room : (w : List ℕ) (from n : ℕ) → from + 3 * n ≤ length w → 3 * n ≤ length (drop from w)

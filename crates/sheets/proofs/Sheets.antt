@@ -1,14 +1,15 @@
 -- Lines one under the other: a line more is one write more, and room for all lines is room for each in its turn.
 use mathlib.Core.Path.{◌≡◌, refl, ap, ◌∙◌}
 use mathlib.Core.List.{List}
-use Prim.Native.Nat.{ℕ, zero, suc, ◌+◌, ◌≤◌, ◌<◌}
+use Prim.Native.Nat.{ℕ, zero, suc, ◌+◌, ◌<◌}
 use native.Mathlib.Numerals.{add-one}
 use native.Mathlib.Omega.{arith}
 use lib.ListN.{length, length-append}
 use Rattle.plain.specs.Sums.{sum_to}
 use Rattle.plain.proofs.Sums.{sum-under}
-use Rattle.texts.specs.Inner.Wrote.{Room, Wrote}
-use Rattle.texts.proofs.Writes.{◌then◌, kept, wrote_none}
+use Rattle.texts.specs.declared.Page.{Page}
+use Rattle.texts.specs.Inner.Page.{HasRoom, Puts}
+use Rattle.texts.proofs.Writes.{◌then◌, kept, puts_none}
 use Rattle.sheets.specs.Lines.{lines_to}
 
 -- how many bytes the lines have
@@ -18,17 +19,17 @@ length-lines_to zero line = refl
 length-lines_to (suc n) line = length-append (lines_to n line) (line n) ∙ ap (λ (x : ℕ). x + length (line n)) (length-lines_to n line)
 
 -- before the first line, and a line more
-pub lines_none : (at : ℕ) (line : ℕ → List ℕ) (out : List ℕ) → at ≤ length out → Wrote at (lines_to 0 line) out out at
+pub lines_none : {page : Page} (n : ℕ) (line : ℕ → List ℕ) → HasRoom page (lines_to n line) → Puts page (lines_to 0 line) page
 unfolding lines_to
-lines_none at line out h = wrote_none at out h
+lines_none {page} n line r = puts_none page (omega (arith, r.fits))
 
-pub lines_more : {at mid end : ℕ} {out out₁ out₂ : List ℕ} (k : ℕ) (line : ℕ → List ℕ) → Wrote at (lines_to k line) out out₁ mid → Wrote mid (line k) out₁ out₂ end → Wrote at (lines_to (k + 1) line) out out₂ end
+pub lines_more : {p q r : Page} (k : ℕ) (line : ℕ → List ℕ) → Puts p (lines_to k line) q → Puts q (line k) r → Puts p (lines_to (k + 1) line) r
 unfolding lines_to
 lines_more k line v w = rw add-one (v then w)
 
 -- room for all is room for the next
-pub lines-room : {at mid : ℕ} {out out₁ : List ℕ} (k n : ℕ) (line : ℕ → List ℕ) → k < n → Room at (lines_to n line) out → Wrote at (lines_to k line) out out₁ mid → Room mid (line k) out₁
-lines-room k n line l r w = record {
+pub lines-room : {p q : Page} (k n : ℕ) (line : ℕ → List ℕ) → k < n → HasRoom p (lines_to n line) → Puts p (lines_to k line) q → HasRoom q (line k)
+lines-room k n line l r v = let w = v.wrote in record {
   fits = omega (
     arith,
     r.fits,

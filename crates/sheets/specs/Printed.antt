@@ -1,5 +1,5 @@
 -- What is printed for a record: the sheet of its plan, or "on a refusal .. one line".
-use Rattle.std.specs.Prelude.{List, ℕ, ltb, length, replicate}
+use Rattle.std.specs.Prelude.{◌≡◌, List, ℕ, ◌≤◌, ltb, length, replicate}
 use Rattle.plain.specs.Pick.{pick}
 use Rattle.tables.specs.declared.TaskTable.{TaskTable}
 use Rattle.plans.specs.Diagram.{work, path}
@@ -34,3 +34,7 @@ pub record Printed : Type 0 where
 -- the text at the front of a buffer that has room for every sheet; nothing in a smaller one
 abbrev pub printed : List ℕ → List ℕ → Printed
 printed text out = pick (ltb (length out) sheet_max) (record { count = 0; out = out }) (record { count = length text; out = wrote 0 text out })
+
+-- what a call that prints promises: the text, and an answer within the buffer
+abbrev pub Prints : (text out : List ℕ) (count : ℕ) (after : List ℕ) → Type 0
+Prints text out count after = (record { count = count; out = after } ≡ printed text out) × (count ≤ length out)

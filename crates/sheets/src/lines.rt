@@ -1,9 +1,9 @@
-// The lines of a sheet. Each writer answers the place past what it wrote.
+// The lines of a sheet.
 ghost use Rattle.std.specs.Prelude.{◌≡◌, ◌+◌, ◌*◌, ◌≤◌, ◌<◌, length};
-ghost use Rattle.texts.specs.Inner.Wrote.{Room, Wrote};
+ghost use Rattle.texts.specs.Inner.Page.{HasRoom, Puts};
 ghost use Rattle.sheets.specs.Lines.{task_line, triple_line, triple_at, triples_to};
 
-use texts::Triple;
+use texts::Page;
 
 // What the first line gives of a task, beside the plan's Q.
 #[derive(Clone, Copy)]
@@ -21,18 +21,25 @@ pub enum Part {
     Nodes,
 }
 
-pub fn put_task_line(out: &mut [u8], at: usize, head: Head, over: u64) -> usize
-    requires { Room at (task_line head over) out.old }
-    ensures { Wrote at (task_line head over) out.old out.new result }
+// Three numbers of a plan.
+#[derive(Clone, Copy)]
+pub struct Triple {
+    pub x: u64,
+    pub y: u64,
+    pub z: u64,
+}
+
+pub fn put_task_line(page: &mut Page, head: Head, over: u64)
+    requires { HasRoom page.old (task_line head over) }
+    ensures { Puts page.old (task_line head over) page.new }
 {
-    let mut end = texts::put_field(out, at, b"task ", head.id, b' ');
-    end = texts::put_field(out, end, b"period ", head.period, b' ');
-    let rest = Triple {
-        x: head.work,
-        y: head.path,
-        z: over,
-    };
-    texts::put_line_of_three(out, end, b"work ", b"path ", b"over ", rest)
+    page.put_line(&[
+        (b"task ", head.id),
+        (b"period ", head.period),
+        (b"work ", head.work),
+        (b"path ", head.path),
+        (b"over ", over),
+    ]);
 }
 
 fn triple_at(triples: &[u64], k: usize) -> Triple
@@ -47,34 +54,34 @@ fn triple_at(triples: &[u64], k: usize) -> Triple
 }
 
 // The line of triple k.
-fn put_triple_line(out: &mut [u8], at: usize, part: Part, k: u64, triple: Triple) -> usize
-    requires { Room at (triple_line part k triple) out.old }
-    ensures { Wrote at (triple_line part k triple) out.old out.new result }
+fn put_triple_line(page: &mut Page, part: Part, k: u64, triple: Triple)
+    requires { HasRoom page.old (triple_line part k triple) }
+    ensures { Puts page.old (triple_line part k triple) page.new }
 {
+    let Triple { x, y, z } = triple;
     match part {
-        Part::Segments => {
-            let end = texts::put_field(out, at, b"seg ", k, b' ');
-            texts::put_line_of_three(out, end, b"threads ", b"length ", b"deadline ", triple)
-        }
-        Part::Nodes => {
-            let end = texts::put_field(out, at, b"node ", k, b' ');
-            texts::put_line_of_three(out, end, b"offset ", b"deadline ", b"density ", triple)
-        }
+        Part::Segments => page.put_line(&[
+            (b"seg ", k),
+            (b"threads ", x),
+            (b"length ", y),
+            (b"deadline ", z),
+        ]),
+        Part::Nodes => page.put_line(&[
+            (b"node ", k),
+            (b"offset ", x),
+            (b"deadline ", y),
+            (b"density ", z),
+        ]),
     }
 }
 
 // The lines of n triples.
-pub fn put_triple_lines(out: &mut [u8], at: usize, part: Part, triples: &[u64], n: usize) -> usize
+pub fn put_triple_lines(page: &mut Page, part: Part, triples: &[u64], n: usize)
     requires n_in_bounds { 3 * n ≤ length triples.now }
-    requires room { Room at (triples_to n part triples.now) out.old }
-    ensures { Wrote at (triples_to n part triples.now) out.old out.new result }
+    requires room { HasRoom page.old (triples_to n part triples.now) }
+    ensures { Puts page.old (triples_to n part triples.now) page.new }
 {
-    let mut end = at;
-    let mut k = 0;
-    while k < n {
-        let triple = triple_at(triples, k);
-        end = put_triple_line(out, end, part, k as u64, triple);
-        k += 1;
+    for k in 0..n {
+        put_triple_line(page, part, k as u64, triple_at(triples, k));
     }
-    end
 }

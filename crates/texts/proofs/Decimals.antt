@@ -43,9 +43,9 @@ unfolding decimal
 decimal-size v = digits-size 20 v
 
 -- the two cases of a decimal, as the code has them
-pub decimal-one : (v : ℕ) → v < 10 → decimal v ≡ (48 + v) ∷ []
+pub decimal-one : (v : ℕ) → v < 10 → decimal v ≡ (48 + v % 10) ∷ []
 unfolding decimal
-decimal-one v h = digits-one 19 v h
+decimal-one v h = let digit : v % 10 ≡ v = omega arith in rw digit (digits-one 19 v h)
 
 pub decimal-more : (v : ℕ) → 10 ≤ v → v < 2 ^ 64 → decimal v ≡ decimal (v / 10) ++ ((48 + v % 10) ∷ [])
 unfolding decimal

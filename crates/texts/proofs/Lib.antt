@@ -1,3 +1,4 @@
 pub mod Writes
 pub mod Decimals
 pub mod Sizes
+pub mod Lines

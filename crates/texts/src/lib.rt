@@ -1,76 +1,65 @@
-// Lines of fixed words and decimals, written into a lent buffer. Each writer answers the place past what it wrote.
+// Lines of fixed words and decimals, written into a lent buffer.
 #![tactic(auto)]
 
 ghost use Rattle.std.specs.Prelude.{[], ◌∷◌};
 ghost use Rattle.texts.specs.Decimal.{decimal};
 ghost use Rattle.texts.specs.Lines.{field, line};
-ghost use Rattle.texts.specs.Inner.Wrote.{Room, Wrote};
+ghost use Rattle.texts.specs.Inner.Page.{HasRoom, Puts, words_of};
 
-pub fn put_text(out: &mut [u8], at: usize, text: &[u8]) -> usize
-    requires { Room at text.now out.old }
-    ensures { Wrote at text.now out.old out.new result }
-{
-    let mut i = 0;
-    while i < text.len() {
-        out[at + i] = text[i];
-        i += 1;
+/// A text in a lent buffer: its first `end` bytes are written, and each writer goes on behind them.
+#[derive(Drop)]
+pub struct Page<'a> {
+    pub out: &'a mut [u8],
+    pub end: usize,
+}
+
+impl Page<'_> {
+    pub fn put_text(&mut self, text: &[u8])
+        requires { HasRoom self.old text.now }
+        ensures { Puts self.old text.now self.new }
+    {
+        let end = self.end + text.len();
+        self.out[self.end..end].copy_from_slice(text);
+        self.end = end;
     }
-    at + i
-}
 
-pub fn put_decimal(out: &mut [u8], at: usize, value: u64) -> usize
-    requires { Room at (decimal value) out.old }
-    ensures { Wrote at (decimal value) out.old out.new result }
-{
-    if value < 10 {
-        out[at] = (48 + value) as u8;
-        return at + 1;
+    fn put_byte(&mut self, byte: u8)
+        requires { HasRoom self.old (byte ∷ []) }
+        ensures { Puts self.old (byte ∷ []) self.new }
+    {
+        self.out[self.end] = byte;
+        self.end += 1;
     }
-    let last = put_decimal(out, at, value / 10);
-    out[last] = (48 + value % 10) as u8;
-    last + 1
-}
 
-// A fixed word, a decimal and the byte after it.
-pub fn put_field(out: &mut [u8], at: usize, word: &[u8], value: u64, after: u8) -> usize
-    requires { Room at (field word.now value after) out.old }
-    ensures { Wrote at (field word.now value after) out.old out.new result }
-{
-    let number = put_text(out, at, word);
-    let end = put_decimal(out, number, value);
-    out[end] = after;
-    end + 1
-}
+    pub fn put_decimal(&mut self, value: u64)
+        requires { HasRoom self.old (decimal value) }
+        ensures { Puts self.old (decimal value) self.new }
+    {
+        let tenth = value / 10;
+        if tenth > 0 {
+            self.put_decimal(tenth);
+        }
+        self.put_byte((48 + value % 10) as u8);
+    }
 
-// A line of two fixed words, a and b, with the numbers x and y.
-pub fn put_line_of_two(out: &mut [u8], at: usize, a: &[u8], x: u64, b: &[u8], y: u64) -> usize
-    requires { Room at (line ((a.now, x) ∷ (b.now, y) ∷ [])) out.old }
-    ensures { Wrote at (line ((a.now, x) ∷ (b.now, y) ∷ [])) out.old out.new result }
-{
-    let end = put_field(out, at, a, x, b' ');
-    put_field(out, end, b, y, b'\n')
-}
+    // A fixed word, a decimal and the byte after it.
+    pub fn put_field(&mut self, word: &[u8], value: u64, after: u8)
+        requires { HasRoom self.old (field word.now value after) }
+        ensures { Puts self.old (field word.now value after) self.new }
+    {
+        self.put_text(word);
+        self.put_decimal(value);
+        self.put_byte(after);
+    }
 
-// Three numbers of a line.
-#[derive(Clone, Copy)]
-pub struct Triple {
-    pub x: u64,
-    pub y: u64,
-    pub z: u64,
-}
-
-// A line of three fixed words with their numbers.
-pub fn put_line_of_three(
-    out: &mut [u8],
-    at: usize,
-    a: &[u8],
-    b: &[u8],
-    c: &[u8],
-    numbers: Triple,
-) -> usize
-    requires { Room at (line ((a.now, numbers.x) ∷ (b.now, numbers.y) ∷ (c.now, numbers.z) ∷ [])) out.old }
-    ensures { Wrote at (line ((a.now, numbers.x) ∷ (b.now, numbers.y) ∷ (c.now, numbers.z) ∷ [])) out.old out.new result }
-{
-    let end = put_field(out, at, a, numbers.x, b' ');
-    put_line_of_two(out, end, b, numbers.y, c, numbers.z)
+    // A line of fixed words, each with its number.
+    pub fn put_line(&mut self, fields: &[(&[u8], u64)])
+        requires { HasRoom self.old (line (words_of fields.now)) }
+        ensures { Puts self.old (line (words_of fields.now)) self.new }
+    {
+        for (i, (word, value)) in fields.iter().enumerate() {
+            let after = if i + 1 == fields.len() { b'\n' } else { b' ' };
+            self.put_field(word, *value, after);
+        }
+    }
 }

@@ -8,11 +8,11 @@ use Rattle.graphs.specs.declared.Graph.{Graph}
 use Rattle.plans.specs.Calls.{on_table}
 use Rattle.sheets.specs.Lines.{refused_line}
 use Rattle.sheets.specs.Printed.{table_sheet, sheet_cost}
-use Rattle.sheets.proofs.Printing.{wrote-same}
+use Rattle.sheets.proofs.Printing.{puts-same}
 use Rattle.graphsheets.specs.Sheet.{graph_in, cut_off, relaxed}
 use Rattle.graphsheets.proofs.Sheets.{sheet-cut, whole-short, whole-commented, sheet-refused, sheet-read, read-range, read-period}
 use Rattle.graphsheets.proofs.put_graph.Goals as goal
-use Rattle.graphsheets.proofs.put_graph.Goals.{After-read_text-graph, In_default, Joined-else-text-gt-TEXT_MAX, else-text-gt-TEXT_MAX-via-then-text-gt-TEXT_MAX+else-not-graph, else-text-gt-TEXT_MAX-via-else-text-gt-TEXT_MAX}
+use Rattle.graphsheets.proofs.put_graph.Goals.{After-read_text-graph, In-Accepted, Joined-else-text-gt-TEXT_MAX, else-text-gt-TEXT_MAX-via-then-text-gt-TEXT_MAX+else-not-graph, else-text-gt-TEXT_MAX-via-else-text-gt-TEXT_MAX}
 
 graph : (c : After-read_text-graph) → graph_in c.args.text.now ≡ c.read_text-graph.result
 graph c = sym c.read_text-graph.ensures
@@ -20,7 +20,7 @@ graph c = sym c.read_text-graph.ensures
 pub returns-then-not-graph : goal.returns-then-not-graph
 returns-then-not-graph c =
     let no-comment = ap (λ (x : Graph). x.commented) (graph (goal.at.returns-then-not-graph c).After-read_text-graph) ∙ not-true _ c.if-not-graph.true in
-    wrote-same (ap refused_line c.of.ensures ∙ sym (sheet-cut c.args.text.now c.if-text-gt-TEXT_MAX.true no-comment)) c.put_refusal.ensures
+    puts-same (ap refused_line c.of.ensures ∙ sym (sheet-cut c.args.text.now c.if-text-gt-TEXT_MAX.true no-comment)) c.put_refusal.ensures
 
 -- past the first test nothing is cut off
 whole : (c : Joined-else-text-gt-TEXT_MAX) → cut_off c.args.text.now ≡ false
@@ -33,17 +33,21 @@ whole c =
 pub returns-in-Refused : goal.returns-in-Refused
 returns-in-Refused c =
     let refused = ap (λ (x : Graph). x.outcome) (graph (goal.at.returns-in-Refused c).After-read_text-graph) ∙ c.in-Refused.is in
-    wrote-same (sym (sheet-refused c.args.text.now (whole (goal.at.returns-in-Refused c).Joined-else-text-gt-TEXT_MAX) refused)) c.put_refusal-in-Refused.ensures
+    puts-same (sym (sheet-refused c.args.text.now (whole (goal.at.returns-in-Refused c).Joined-else-text-gt-TEXT_MAX) refused)) c.put_refusal-in-Refused.ensures
 
 -- past the second it was read
-read : (c : In_default) → (graph_in c.args.text.now).outcome ≡ Accepted
-read c = ap (λ (x : Graph). x.outcome) (graph (goal.at-In_default c).After-read_text-graph) ∙ c.in_default.is
+read : (c : In-Accepted) → (graph_in c.args.text.now).outcome ≡ Accepted
+read c = ap (λ (x : Graph). x.outcome) (graph (goal.at-In-Accepted c).After-read_text-graph) ∙ c.in-Accepted.is
 
-pub put_relaxed-requires : goal.put_relaxed-requires
-put_relaxed-requires c =
-    rw c.read_text-graph.ensures (c.requires, read-range c.args.text.now (read (goal.at.put_relaxed-requires c).In_default), read-period c.args.text.now (read (goal.at.put_relaxed-requires c).In_default))
+pub put_relaxed-requires-clause-in_range : goal.put_relaxed-requires-clause-in_range
+put_relaxed-requires-clause-in_range c =
+    rw c.read_text-graph.ensures (read-range c.args.text.now (read (goal.at.put_relaxed-requires-clause-in_range c).In-Accepted))
 
-pub returns : goal.returns
-returns c =
+pub put_relaxed-requires-clause-largest : goal.put_relaxed-requires-clause-largest
+put_relaxed-requires-clause-largest c =
+    rw c.read_text-graph.ensures (read-period c.args.text.now (read (goal.at.put_relaxed-requires-clause-largest c).In-Accepted))
+
+pub returns-in-Accepted : goal.returns-in-Accepted
+returns-in-Accepted c =
     let sheet = ap (λ (x : Graph). on_table refused_line table_sheet (costed (relaxed x.table) sheet_cost)) c.read_text-graph.ensures in
-    wrote-same (sheet ∙ sym (sheet-read c.args.text.now (whole (goal.at.returns c).Joined-else-text-gt-TEXT_MAX) (read (goal.at.returns c).In_default))) c.put_relaxed.ensures
+    puts-same (sheet ∙ sym (sheet-read c.args.text.now (whole (goal.at.returns-in-Accepted c).Joined-else-text-gt-TEXT_MAX) (read (goal.at.returns-in-Accepted c).In-Accepted))) c.put_relaxed.ensures

@@ -2,18 +2,16 @@
 use mathlib.Core.Path.{sym, ap, ◌∙◌}
 use native.Mathlib.Omega.{arith}
 use Rattle.sheets.specs.Lines.{refused_line}
-use Rattle.sheets.proofs.Printing.{wrote-same}
+use Rattle.sheets.proofs.Printing.{puts-same}
 use Rattle.mendlines.proofs.Lines.{line-counts, line-refusal, counts-fit}
 use Rattle.mendlines.proofs.put_mending.Goals as goal
 
-pub returns-then-answer-ne0 : goal.returns-then-answer-ne0
-returns-then-answer-ne0 c = let a = c.args in
-    wrote-same (ap refused_line c.told_by.ensures ∙ sym (line-refusal a.mending c.if-answer-ne0.true)) c.put_refusal.ensures
+pub returns-then-mending-ne0 : goal.returns-then-mending-ne0
+returns-then-mending-ne0 c =
+    puts-same (ap refused_line c.told_by.ensures ∙ sym (line-refusal c.args.mending c.if-mending-ne0.true)) c.put_refusal.ensures
+
+pub put_line-requires : goal.put_line-requires
+put_line-requires c = record { fits = omega (arith, counts-fit c.args.mending.counts) }
 
 pub returns : goal.returns
-returns c = let a = c.args in
-    wrote-same (sym (line-counts a.mending c.if-answer-ne0.false)) c.put_line_of_three.ensures
-
-pub put_line_of_three-requires : goal.put_line_of_three-requires
-put_line_of_three-requires c = let a = c.args in
-    record { fits = omega (arith, counts-fit a.mending.counts) }
+returns c = puts-same (sym (line-counts c.args.mending c.if-mending-ne0.false)) c.put_line.ensures

@@ -14,7 +14,7 @@ use Rattle.sheets.specs.declared.lines.Head.{Head}
 use Rattle.sheets.specs.Lines.{refused_line}
 use Rattle.sheets.specs.Sheet.{sheet_text}
 use Rattle.sheets.specs.Printed.{sheet_cost}
-use Rattle.sheets.proofs.Printing.{wrote-same}
+use Rattle.sheets.proofs.Printing.{puts-same}
 use Rattle.planchecks.specs.Sheet.{judged_pair, pair_text}
 use Rattle.judges.proofs.Accepting.{Accepting, accepting}
 use Rattle.planchecks.proofs.Printable.{printable}
@@ -42,14 +42,14 @@ module _ (bytes plan : List ℕ) (j : Judging) {w : List ℕ} (e : record { answ
 judgement : (c : After-judge-judging) → record { answer = c.judge-judging.result.answer; lent = c.judge-judging.new.words } ≡ judged_pair c.args.bytes.now c.args.plan.now
 judgement c = c.judge-judging.ensures.words_after
 
-pub returns-then-answer-ne0 : goal.returns-then-answer-ne0
-returns-then-answer-ne0 c =
-    wrote-same (ap refused_line c.told_by.ensures ∙ text-refused c.args.bytes.now c.args.plan.now c.judge-judging.result (judgement (goal.at.returns-then-answer-ne0 c).After-judge-judging) c.if-answer-ne0.true) c.put_refusal.ensures
+pub returns-then-judging-ne0 : goal.returns-then-judging-ne0
+returns-then-judging-ne0 c =
+    puts-same (ap refused_line c.told_by.ensures ∙ text-refused c.args.bytes.now c.args.plan.now c.judge-judging.result (judgement (goal.at.returns-then-judging-ne0 c).After-judge-judging) c.if-judging-ne0.true) c.put_refusal.ensures
 
-pub put_sheet-requires : goal.put_sheet-requires
-put_sheet-requires c =
-    record { sheet_max_in_bounds = c.requires; printable = printable (accepts c.args.bytes.now c.args.plan.now c.judge-judging.result (judgement (goal.at.put_sheet-requires c).After-judge-judging) c.if-answer-ne0.false) }
+pub put_sheet-requires-clause-printable : goal.put_sheet-requires-clause-printable
+put_sheet-requires-clause-printable c =
+    printable (accepts c.args.bytes.now c.args.plan.now c.judge-judging.result (judgement (goal.at.put_sheet-requires-clause-printable c).After-judge-judging) c.if-judging-ne0.false)
 
 pub returns : goal.returns
 returns c =
-    wrote-same (text-sheet c.args.bytes.now c.args.plan.now c.judge-judging.result (judgement (goal.at.returns c).After-judge-judging) c.if-answer-ne0.false (c.judge-judging.ensures.judged c.if-answer-ne0.false)) c.put_sheet.ensures
+    puts-same (text-sheet c.args.bytes.now c.args.plan.now c.judge-judging.result (judgement (goal.at.returns c).After-judge-judging) c.if-judging-ne0.false (c.judge-judging.ensures.judged c.if-judging-ne0.false)) c.put_sheet.ensures

@@ -14,9 +14,9 @@ use Rattle.plans.specs.Inner.Table.{table_plan}
 use Rattle.plans.proofs.Tests.{on_fits, table-told}
 use Rattle.sheets.specs.Lines.{refused_line}
 use Rattle.sheets.specs.Printed.{table_sheet, sheet_cost}
-use Rattle.sheets.proofs.Printing.{wrote-same, printable}
+use Rattle.sheets.proofs.Printing.{puts-same, printable}
 use Rattle.sheets.proofs.put_table.Goals as goal
-use Rattle.sheets.proofs.put_table.Goals.{After-plan_table-planning, Else-answer-ne0}
+use Rattle.sheets.proofs.put_table.Goals.{After-plan_table-planning, Else-planning-ne0}
 
 -- the words before the plan
 abbrev zeros : List ℕ
@@ -26,28 +26,27 @@ zeros = replicate words_max 0
 plans : (c : After-plan_table-planning) → record { answer = c.plan_table-planning.result.answer; lent = c.plan_table-planning.new.words } ≡ table_plan (accepted 0) zeros (costed c.args.table sheet_cost)
 plans c = rw c.accepted.ensures at c.plan_table-planning.ensures.words_after
 
-pub returns-then-answer-ne0 : goal.returns-then-answer-ne0
-returns-then-answer-ne0 c =
-    let answered = ap (λ (x : After (List ℕ)). x.answer) (plans (goal.at.returns-then-answer-ne0 c).After-plan_table-planning) in
-    wrote-same (ap refused_line c.told_by.ensures ∙ table-told refused_line table_sheet zeros (costed c.args.table sheet_cost) answered c.if-answer-ne0.true) c.put_refusal.ensures
-
-pub plan_table-planning-requires : goal.plan_table-planning-requires
-plan_table-planning-requires c = (c.requires.1, omega arith)
+pub returns-then-planning-ne0 : goal.returns-then-planning-ne0
+returns-then-planning-ne0 c =
+    let answered = ap (λ (x : After (List ℕ)). x.answer) (plans (goal.at.returns-then-planning-ne0 c).After-plan_table-planning) in
+    puts-same (ap refused_line c.told_by.ensures ∙ table-told refused_line table_sheet zeros (costed c.args.table sheet_cost) answered c.if-planning-ne0.true) c.put_refusal.ensures
 
 -- past the test the table is accepted, and its plan stands in the words
-totals : (c : Else-answer-ne0) → (Totalled (costed c.args.table sheet_cost) c.plan_table-planning.result)
-totals c = c.plan_table-planning.ensures.totalled c.if-answer-ne0.false
+totals : (c : Else-planning-ne0) → (Totalled (costed c.args.table sheet_cost) c.plan_table-planning.result)
+totals c = c.plan_table-planning.ensures.totalled c.if-planning-ne0.false
 
-words : (c : Else-answer-ne0) → (c.plan_table-planning.new.words ≡ written (costed c.args.table sheet_cost) zeros)
+words : (c : Else-planning-ne0) → (c.plan_table-planning.new.words ≡ written (costed c.args.table sheet_cost) zeros)
 words c =
-    ap (λ (x : After (List ℕ)). x.lent) (plans (goal.at-Else-answer-ne0 c).After-plan_table-planning ∙ on_fits (unplanned zeros) (planned zeros) (costed c.args.table sheet_cost) (totals c).table.free (totals c).table.fits)
+    ap (λ (x : After (List ℕ)). x.lent) (plans (goal.at-Else-planning-ne0 c).After-plan_table-planning ∙ on_fits (unplanned zeros) (planned zeros) (costed c.args.table sheet_cost) (totals c).table.free (totals c).table.fits)
 
-pub put_sheet-requires : goal.put_sheet-requires
-put_sheet-requires c =
-    record { sheet_max_in_bounds = c.requires.0; printable = printable (totals (goal.at.put_sheet-requires c).Else-answer-ne0).table zeros (omega arith) (words (goal.at.put_sheet-requires c).Else-answer-ne0) }
+pub put_sheet-requires-clause-printable : goal.put_sheet-requires-clause-printable
+put_sheet-requires-clause-printable c =
+    let known = (goal.at.put_sheet-requires-clause-printable c).Else-planning-ne0 in printable (totals known).table zeros (omega arith) (words known)
 
 pub returns : goal.returns
 returns c =
-    wrote-same
-    (rw ((totals (goal.at.returns c).Else-answer-ne0).work, (totals (goal.at.returns c).Else-answer-ne0).path, words (goal.at.returns c).Else-answer-ne0) (sym (on_fits refused_line table_sheet (costed c.args.table sheet_cost) (totals (goal.at.returns c).Else-answer-ne0).table.free (totals (goal.at.returns c).Else-answer-ne0).table.fits)))
+    let known = (goal.at.returns c).Else-planning-ne0 in
+    let told = totals known in
+    puts-same
+    (rw (told.work, told.path, words known) (sym (on_fits refused_line table_sheet (costed c.args.table sheet_cost) told.table.free told.table.fits)))
     c.put_sheet.ensures
