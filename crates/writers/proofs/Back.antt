@@ -10,6 +10,7 @@ use native.Mathlib.Omega.{arith}
 use lib.ListN.{length, set, replicate}
 use lib.Pow.{pow_mono}
 use borrow.Author.Tests.{lt-ltb, le-ltb}
+use Rattle.std.specs.Prelude.{Ok}
 use Rattle.plain.specs.At.{at}
 use Rattle.plain.proofs.Lists.{lt-or-ge, Filled, fill-zeros, fill_more}
 use Rattle.sets.specs.Members.{members}
@@ -21,7 +22,6 @@ use Rattle.tables.specs.declared.TaskTable.{TaskTable}
 use Rattle.tables.specs.Limits.{count_max, execution_max, least_execution}
 use Rattle.tables.specs.Range.{InRange}
 use Rattle.tables.specs.Runs.{SomeRuns}
-use Rattle.refusals.specs.declared.Outcome.TheVariants.{Accepted}
 use Rattle.records.specs.Nodes.{table_read, with_node}
 use Rattle.records.specs.Reading.{reading_of}
 use Rattle.records.specs.Expected.{Next, node_from}
@@ -63,7 +63,7 @@ tells-node T u i e w ws c h l m x =
     one l m (one zero-le (few-members T.count w c h) (rw (add-zero (length (members count_max w))) at p))
 
 -- numbers that are told are in range
-tells-ranges : {next : Next} {vs : List ℕ} {t : TaskTable} (place : ℕ) → Tells next vs t → ranges_from vs next place ≡ Accepted
+tells-ranges : {next : Next} {vs : List ℕ} {t : TaskTable} (place : ℕ) → Tells next vs t → ranges_from vs next place ≡ Ok tt
 unfolding ranges_from
 tells-ranges place end = refl
 tells-ranges place (one {due} {v} {vs} l h x) = ranges_in due v vs place l h ∙ tells-ranges _ x
@@ -126,7 +126,7 @@ module _ (t : TaskTable) (f : Filling t.count t) where
       let last : Tells (node_from t t.count) [] t = rw (le-ltb t.count t.count (le_refl t.count)) end in
       rw (append-nil (numbers_to t t.count)) at (tells-from t.count (le_refl t.count) [] (rw so_far-all last))
 
-  pub table-ranges : ranges (numbers_of t) ≡ Accepted
+  pub table-ranges : ranges (numbers_of t) ≡ Ok tt
   table-ranges = tells-ranges 0 record-tells
 
   pub record-read : SomeRuns t → reading_of (record_of t) ≡ table_read t

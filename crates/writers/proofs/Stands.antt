@@ -7,10 +7,10 @@ use mathlib.Core.List.{List, [], ◌∷◌, ◌++◌, append_assoc, append-nil}
 use native.Mathlib.Omega.{arith}
 use lib.ListN.{length, drop}
 use lib.Seq.{drop-append_seam, get_or-append_seam}
+use Rattle.std.specs.Prelude.{Result, Err, ⊤}
 use Rattle.plain.specs.At.{at}
 use Rattle.plain.proofs.Lists.{lt-or-ge}
 use Rattle.refusals.specs.declared.Refusal.{Refusal}
-use Rattle.refusals.specs.declared.Outcome.TheVariants.{Refused}
 use Rattle.refusals.specs.Refusal.{refusal}
 use Rattle.numbers.specs.Number.{record_more}
 use Rattle.numbers.specs.Shortest.{shortest, all_shortest}
@@ -36,11 +36,11 @@ module _ (numbers : List ℕ) where
   stands-ranges begin = refl
   stands-ranges (on {place} {v} {due} {rest} s l h) = stands-ranges s ∙ ranges_in due v rest place l h
 
-  pub outside-refused : {broken place : ℕ} → Outside numbers broken place → ranges numbers ≡ Refused (refusal broken place)
+  pub outside-refused : {broken place : ℕ} → Outside numbers broken place → ranges numbers ≡ Err (refusal broken place)
   outside-refused (outside {place} {v} {due} {rest} s o) = stands-ranges s ∙ ranges-out due v rest place o
 
   -- what is left is in range, or some number of it is not
-  from : (rest : List ℕ) (place : ℕ) (next : Next) → Stands numbers place next rest → (r : Refusal) → ranges_from rest next place ≡ Refused r →
+  from : (rest : List ℕ) (place : ℕ) (next : Next) → Stands numbers place next rest → (r : Refusal) → ranges_from rest next place ≡ Err r →
       (broken : ℕ) × (at : ℕ) × Outside numbers broken at × (r ≡ refusal broken at)
   unfolding ranges_from
   from [] place next s r e = clash (cc)
@@ -56,10 +56,10 @@ module _ (numbers : List ℕ) where
       out : (v < (range due).low) ⊎ ((range due).high < v) → (broken : ℕ) × (at : ℕ) × Outside numbers broken at × (r ≡ refusal broken at)
       out o = ((range due).broken, place, outside s o, told (sym e ∙ ranges-out due v rest place o))
         where
-          told : Refused r ≡ Refused (refusal (range due).broken place) → r ≡ refusal (range due).broken place
+          told : ◌≡◌ {A = Result ⊤ Refusal} (Err r) (Err (refusal (range due).broken place)) → r ≡ refusal (range due).broken place
           told q = cc
 
-  pub refused-outside : (r : Refusal) → ranges numbers ≡ Refused r → (broken : ℕ) × (at : ℕ) × Outside numbers broken at × (r ≡ refusal broken at)
+  pub refused-outside : (r : Refusal) → ranges numbers ≡ Err r → (broken : ℕ) × (at : ℕ) × Outside numbers broken at × (r ≡ refusal broken at)
   refused-outside r e = from numbers 0 (number edition) begin r e
 
   -- where each number takes at most four groups, a reader of them all expects each where it stands

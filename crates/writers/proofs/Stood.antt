@@ -1,42 +1,37 @@
 -- A trial that came through has come to the place behind the numbers that were tried: each moved it on by its shortest form.
-use Prim.Native.Nat.{ℕ, suc, ◌+◌, ◌^◌, ◌≤◌, ◌<◌}
+use Prim.Native.Nat.{ℕ, suc, ◌^◌, ◌≤◌, ◌<◌}
 use mathlib.Core.Path.{◌≡◌, ap}
 use mathlib.Core.List.{List, [], ◌∷◌, ◌++◌, append_assoc}
 use native.Mathlib.Omega.{arith}
 use lib.ListN.{length}
+use Rattle.std.specs.Prelude.{Ok}
 use Rattle.refusals.specs.Numbers.{bad_execution, bad_parent}
-use Rattle.refusals.specs.declared.Outcome.TheVariants.{Accepted}
 use Rattle.sets.specs.Members.{members}
 use Rattle.sets.specs.Size.{size}
 use Rattle.sets.proofs.Sizes.{length-members}
 use Rattle.sets.proofs.Below.{size-grows}
 use Rattle.tables.specs.Limits.{count_max, execution_max}
 use Rattle.numbers.specs.Number.{record_more}
-use Rattle.numbers.specs.Shortest.{shortest}
-use Rattle.numbers.specs.Inner.Word.{word_more}
 use Rattle.numbers.proofs.Written.{written-length, word_number}
-use Rattle.writers.specs.declared.Trial.{Trial}
 use Rattle.writers.specs.Record.{numbers_written, node_numbers}
-use Rattle.writers.specs.Inner.Trial.{tried, parents_tried, node_tried}
-use Rattle.writers.proofs.Cases.{tried-passed, tried-in, parents-passed, parents-in}
+use Rattle.writers.specs.Inner.Trial.{Trial, tried, parents_tried, node_tried}
+use Rattle.writers.proofs.Cases.{tried-passed, parents-passed}
 use Rattle.writers.proofs.Putting.{members-size}
 
 -- where it came through, it stands behind these numbers
 abbrev pub Stood : Trial → List ℕ → Type 0
-Stood r vs = r.outcome ≡ Accepted → r.next ≡ length (numbers_written vs)
+Stood r vs = (place : ℕ) → r ≡ Ok place → place ≡ length (numbers_written vs)
 
 module _ (r : Trial) (vs : List ℕ) (s : Stood r vs) where
   pub stood-number : (broken low high v : ℕ) → high < 128 ^ suc record_more → Stood (tried broken low high v r) (vs ++ v ∷ [])
-  stood-number broken low high v h e =
-      let f = tried-passed r broken low high v e in
-      let n : (tried broken low high v r).next ≡ r.next + length (shortest word_more v) = ap (λ (x : Trial). x.next) (tried-in r broken low high v f.0 f.1 f.2) in
-      omega (arith, n, s f.0, written-length record_more vs (v ∷ []), ap (length {A = ℕ}) (word_number record_more v (omega arith) (omega arith)))
+  stood-number broken low high v h next e =
+      let f = tried-passed broken low high v r next e in
+      omega (arith, f.next-is, s f.place f.came, written-length record_more vs (v ∷ []), ap (length {A = ℕ}) (word_number record_more v (omega (arith, f.most)) (omega arith)))
 
   pub stood-parents : (n w : ℕ) → n ≤ count_max → Stood (parents_tried n w r) (vs ++ members count_max w)
-  stood-parents n w h e =
-      let f = parents-passed r n w e in
-      let m = ap (λ (x : Trial). x.next) (parents-in r n w f.0 f.1) in
-      omega (arith, m, s f.0, f.1, size-grows n count_max w h, written-length record_more vs (members count_max w), members-size w)
+  stood-parents n w h next e =
+      let f = parents-passed n w r next e in
+      omega (arith, f.next-is, s f.place f.came, f.all, size-grows n count_max w h, written-length record_more vs (members count_max w), members-size w)
 
 pub stood-node : (r : Trial) (vs : List ℕ) → Stood r vs → (least n e w : ℕ) → n ≤ count_max → Stood (node_tried least n e w r) (vs ++ node_numbers e w)
 stood-node r vs s least n e w h =

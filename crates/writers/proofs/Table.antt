@@ -14,8 +14,7 @@ use borrow.Author.Count.{below_more}
 use Rattle.plain.specs.At.{at}
 use Rattle.plain.proofs.Lists.{lt-or-ge}
 use Rattle.refusals.specs.Numbers.{bad_edition, bad_id, bad_period, bad_count, bad_execution, bad_parent}
-use Rattle.refusals.specs.declared.Outcome.{Outcome}
-use Rattle.refusals.specs.declared.Outcome.TheVariants.{Accepted, Refused}
+use Rattle.std.specs.Prelude.{Ok, Err}
 use Rattle.sets.specs.Size.{size_to, size}
 use Rattle.sets.proofs.Below.{word_below}
 use Rattle.tables.specs.Limits.{edition_max, id_max, period_max, count_max, execution_max, least_execution}
@@ -23,11 +22,10 @@ use Rattle.tables.specs.Range.{InRange}
 use Rattle.tables.specs.Runs.{all_zero}
 use Rattle.tables.proofs.Runs.{some_runs}
 use Rattle.numbers.specs.Shortest.{all_shortest}
-use Rattle.writers.specs.declared.Trial.{Trial}
 use Rattle.writers.specs.Record.{numbers_to, numbers_of, record_of, Full}
 use Rattle.writers.specs.Ranges.{ranges}
-use Rattle.writers.specs.Writing.{filled, table_of}
-use Rattle.writers.specs.Inner.Trial.{passed, node_tried, nodes_tried, head_tried, record_tried}
+use Rattle.writers.specs.Writing.{filled, table_of, outcome_of}
+use Rattle.writers.specs.Inner.Trial.{Trial, passed, node_tried, nodes_tried, head_tried, record_tried}
 use Rattle.writers.specs.Inner.Parts.{nodes_to}
 use Rattle.writers.proofs.Cases.{HeadPassed, head_passed, nodes-none, nodes-more, nodes-stay, tried-passed, parents-passed}
 use Rattle.writers.proofs.Parts.{at-filled, numbers-parts}
@@ -54,27 +52,30 @@ module _ (X P : List ℕ) (x d p : ℕ) where
   reached c = along-nodes (Reached (table_of X P x d p)) (head-reached (table_of X P x d p)) (λ i r l. node-reached (table_of X P x d p) i r l c)
 
   -- the outcome: where the head is refused nothing after it matters, else every node is reached
-  pub trial-ranges : (record_tried X P x d p).outcome ≡ ranges (numbers_of (table_of X P x d p))
+  pub trial-ranges : outcome_of (record_tried X P x d p) ≡ ranges (numbers_of (table_of X P x d p))
   unfolding numbers_to
-  trial-ranges = by (head_tried x d p (length X)).outcome refl
+  trial-ranges = by (head_tried x d p (length X)) refl
     where
-      by : (o : Outcome) → (head_tried x d p (length X)).outcome ≡ o → (record_tried X P x d p).outcome ≡ ranges (numbers_of (table_of X P x d p))
-      by Accepted e =
-          let fine = head_passed x d p (length X) e in
+      by : (r : Trial) → head_tried x d p (length X) ≡ r → outcome_of (record_tried X P x d p) ≡ ranges (numbers_of (table_of X P x d p))
+      by (Ok place) e =
+          let fine = head_passed x d p (length X) place e in
           let all = reached fine.count.1 (length X) (omega arith) in
           sym (ap ranges (sym (append-nil (numbers_of (table_of X P x d p)))) ∙ all.goes [] ∙ at-end _ _)
-      by (Refused y) e =
-          ap (λ (r : Trial). r.outcome) (nodes-stay (least_execution x) X P (head_tried x d p (length X)) y e (length X)) ∙ e
+      by (Err y) e =
+          ap outcome_of (nodes-stay (least_execution x) X P _ 0 (length X) y (omega arith) (sym (nodes-none (least_execution x) X P (head_tried x d p (length X))) ∙ e))
           ∙ sym (ap ranges (numbers-parts X P x d p (length X)) ∙ (head-reached (table_of X P x d p)).goes (nodes_to X P (length X)) ∙ at-stop _ _ _ y e)
 
   -- the place
   stood-head : Stood (head_tried x d p (length X)) (numbers_to (table_of X P x d p) 0)
   unfolding numbers_to all_shortest
   stood-head =
-      let one = stood-number (passed 0) [] (λ e. refl) bad_edition 1 edition_max x (omega arith) in
+      let one = stood-number (passed 0) [] begin bad_edition 1 edition_max x (omega arith) in
       let two = stood-number _ (x ∷ []) one bad_id 1 id_max d (omega arith) in
       let three = stood-number _ (x ∷ d ∷ []) two bad_period 1 period_max p (omega arith) in
       stood-number _ (x ∷ d ∷ p ∷ []) three bad_count 1 count_max (length X) (omega arith)
+    where
+      begin : Stood (passed 0) []
+      begin place e = let none : place ≡ 0 = cc in none
 
   stood-nodes : length X ≤ count_max → (i : ℕ) → i ≤ length X → Stood (nodes_tried (least_execution x) X P (head_tried x d p (length X)) i) (numbers_to (table_of X P x d p) i)
   unfolding numbers_to
@@ -82,25 +83,33 @@ module _ (X P : List ℕ) (x d p : ℕ) where
       rw (add-one i) (stood-node r (numbers_to (table_of X P x d p) i) s (least_execution x) (length X) (at (filled X) i) (at (filled P) i) c)
 
   -- the ranges: those of a node, of all nodes, and of the table
-  Fine : ℕ → Type 0
+  pub Fine : ℕ → Type 0
   Fine v = (least_execution x ≤ at X v) × (at X v ≤ execution_max) × (size (at P v) ≤ size_to (length X) (at P v))
 
-  nodes-fine : (i : ℕ) → (nodes_tried (least_execution x) X P (head_tried x d p (length X)) i).outcome ≡ Accepted → ((head_tried x d p (length X)).outcome ≡ Accepted) × ((v : ℕ) → v < i → Fine v)
+  pub record NodesFine (i : ℕ) : Type 0 where
+    pub place : ℕ
+    pub head : head_tried x d p (length X) ≡ Ok place
+    pub nodes : (v : ℕ) → v < i → Fine v
+
+  nodes-fine : (i next : ℕ) → nodes_tried (least_execution x) X P (head_tried x d p (length X)) i ≡ Ok next → NodesFine i
   unfolding nodes_tried Fine
-  nodes-fine zero e = (e, λ v l. absurd (not-suc-le-zero l))
-  nodes-fine (suc i) e =
-      let c = parents-passed _ (length X) (at P i) e in
-      let b = tried-passed _ bad_parent 0 (length X) (size (at P i)) c.0 in
-      let a = tried-passed _ bad_execution (least_execution x) execution_max (at X i) b.0 in
-      let rest = nodes-fine i a.0 in
-      (rest.0, rw (add-one i) at (below_more Fine i rest.1 (a.1, a.2, c.1)))
+  nodes-fine zero next e = record { place = next; head = e; nodes = λ v l. absurd (not-suc-le-zero l) }
+  nodes-fine (suc i) next e =
+      let c = parents-passed (length X) (at P i) _ next e in
+      let b = tried-passed bad_parent 0 (length X) (size (at P i)) _ c.place c.came in
+      let a = tried-passed bad_execution (least_execution x) execution_max (at X i) _ b.place b.came in
+      let rest = nodes-fine i a.place a.came in
+      record { place = rest.place; head = rest.head; nodes = rw (add-one i) at (below_more Fine i rest.nodes (a.least, a.most, c.all)) }
 
-  module _ (e : (record_tried X P x d p).outcome ≡ Accepted) where
-    pub trial-head : HeadPassed x d p (length X)
-    trial-head = head_passed x d p (length X) (nodes-fine (length X) e).0
+  module _ (next : ℕ) (e : record_tried X P x d p ≡ Ok next) where
+    pub fine : NodesFine (length X)
+    fine = nodes-fine (length X) next e
 
-    pub trial-place : (record_tried X P x d p).next ≡ length (record_of (table_of X P x d p))
-    trial-place = stood-nodes trial-head.count.1 (length X) (omega arith) e
+    pub trial-head : HeadPassed x d p (length X) fine.place
+    trial-head = head_passed x d p (length X) fine.place fine.head
+
+    pub trial-place : next ≡ length (record_of (table_of X P x d p))
+    trial-place = stood-nodes trial-head.count.1 (length X) (omega arith) next e
 
     -- past a list's end stands 0
     past : (l : List ℕ) (v : ℕ) → length l ≤ v → at (filled l) v ≡ 0
@@ -109,7 +118,7 @@ module _ (X P : List ℕ) (x d p : ℕ) where
     pub trial-executions : (v : ℕ) → at X v ≤ execution_max
     unfolding Fine
     trial-executions v = ⊎_elim
-        (λ (l : v < length X). ((nodes-fine (length X) e).1 v l).1)
+        (λ (l : v < length X). (fine.nodes v l).1)
         (λ (l : length X ≤ v). rw (get_or-eq_default X 0 l) zero-le)
         (lt-or-ge v (length X))
 
@@ -126,12 +135,12 @@ module _ (X P : List ℕ) (x d p : ℕ) where
         period-high = trial-head.period.1;
         count_low = trial-head.count.0;
         count-high = trial-head.count.1;
-        execution-low = λ v l. rw (at-filled X v) ((nodes-fine (length X) e).1 v l).0;
+        execution-low = λ v l. rw (at-filled X v) (fine.nodes v l).0;
         execution-high = λ v. rw (at-filled X v) (trial-executions v);
         execution-past = past X;
         some_runs = let some = some_runs X (length X) runs in (some.0, some.1, rw (at-filled X some.0) some.2);
         parents-below = λ v. rw (at-filled P v) (⊎_elim
-            (λ (l : v < length X). word_below (length X) (at P v) (words v) ((nodes-fine (length X) e).1 v l).2)
+            (λ (l : v < length X). word_below (length X) (at P v) (words v) (fine.nodes v l).2)
             (λ (l : length X ≤ v). let none : at P v ≡ 0 = get_or-eq_default P 0 {n = v} (rw (← same) l) in rw none (pow_pos (length X)))
             (lt-or-ge v (length X)));
         parents-past = λ v l. past P v (rw (← same) l);

@@ -11,13 +11,12 @@ use native.Mathlib.Omega.{arith}
 use lib.ListN.{length, length-append}
 use lib.Dec.{leb, ltb}
 use borrow.Author.Tests.{le-leb, lt-leb, leb-true, lt-ltb, ltb-true, ltb-false}
+use Rattle.std.specs.Prelude.{Result, Ok, Err, ⊤}
 use Rattle.plain.specs.Pick.{pick}
 use Rattle.plain.specs.At.{at}
 use Rattle.refusals.specs.Numbers.{bad_parent, bad_execution}
 use Rattle.refusals.specs.declared.Refusal.{Refusal}
-use Rattle.refusals.specs.declared.Outcome.{Outcome}
-use Rattle.refusals.specs.declared.Outcome.TheVariants.{Accepted, Refused}
-use Rattle.refusals.specs.Refusal.{refusal, on_outcome}
+use Rattle.refusals.specs.Refusal.{refusal}
 use Rattle.sets.specs.Members.{members}
 use Rattle.sets.specs.Size.{size_to, size}
 use Rattle.sets.specs.Rule.{set_of}
@@ -29,21 +28,22 @@ use Rattle.tables.specs.Limits.{count_max, execution_max, least_execution}
 use Rattle.numbers.specs.Number.{record_more}
 use Rattle.numbers.specs.Shortest.{shortest}
 use Rattle.numbers.specs.Inner.Word.{word_more}
+use Rattle.numbers.proofs.Cases.{clash}
 use Rattle.numbers.proofs.Shortest.{shortest-fewer}
 use Rattle.records.specs.Nodes.{with_node}
 use Rattle.records.specs.Reading.{headed}
 use Rattle.records.specs.Expected.{Due, range, Next, node_from, parent_from, after}
 use Rattle.records.specs.Expected.Due.{edition, id, period, count, execution, parent_count, parent}
 use Rattle.records.specs.Expected.Next.{number}
-use Rattle.writers.specs.declared.Trial.{Trial}
 use Rattle.writers.specs.Record.{node_numbers, numbers_to}
 use Rattle.writers.specs.Ranges.{ranges_from}
-use Rattle.writers.specs.Inner.Trial.{passed, stopped, tried, parents_tried, node_tried, head_tried}
+use Rattle.writers.specs.Writing.{outcome_of}
+use Rattle.writers.specs.Inner.Trial.{Trial, passed, stopped, tried, parents_tried, node_tried, head_tried}
 use Rattle.writers.proofs.Along.{digits, along-members}
 
 -- a number out of its range, and in it
 module _ (due : Due) (v : ℕ) (vs : List ℕ) (place : ℕ) where
-  pub ranges-out : (v < (range due).low) ⊎ ((range due).high < v) → ranges_from (v ∷ vs) (number due) place ≡ Refused (refusal (range due).broken place)
+  pub ranges-out : (v < (range due).low) ⊎ ((range due).high < v) → ranges_from (v ∷ vs) (number due) place ≡ Err (refusal (range due).broken place)
   unfolding ranges_from
   ranges-out h = ⊎_elim (λ l. simp (lt-leb (range due).low v l)) (λ g. simp (lt-leb v (range due).high g, and-false)) h
 
@@ -51,41 +51,40 @@ module _ (due : Due) (v : ℕ) (vs : List ℕ) (place : ℕ) where
   unfolding ranges_from
   ranges_in l g = simp (le-leb (range due).low v l, le-leb v (range due).high g)
 
+-- a trial that refuses nothing came to a place
+pub came : (r : Trial) → outcome_of r ≡ Ok tt → (next : ℕ) × (r ≡ Ok next)
+came (Ok place) e = (place, refl)
+came (Err x) e = clash (cc)
+
 -- what the numbers from a trial on come to, where a reader expects `next`
-pub go_on : Trial → (next : Next) → List ℕ → Outcome
-go_on r next vs = on_outcome Refused (ranges_from vs next r.next) r.outcome
+pub go_on : Trial → (next : Next) → List ℕ → Result ⊤ Refusal
+go_on (Ok place) next vs = ranges_from vs next place
+go_on (Err x) next vs = Err x
 
 -- at the end of the numbers; and where the trial stopped, whatever is left
-pub at-end : (next : Next) (r : Trial) → go_on r next [] ≡ r.outcome
+pub at-end : (next : Next) (r : Trial) → go_on r next [] ≡ outcome_of r
 unfolding go_on ranges_from
-at-end next r = by r.outcome
-  where
-    by : (o : Outcome) → on_outcome Refused Accepted o ≡ o
-    by Accepted = refl
-    by (Refused r) = refl
+at-end next (Ok place) = refl
+at-end next (Err x) = refl
 
-pub at-stop : (next : Next) (r : Trial) (vs : List ℕ) (x : Refusal) → r.outcome ≡ Refused x → go_on r next vs ≡ Refused x
+pub at-stop : (next : Next) (r : Trial) (vs : List ℕ) (x : Refusal) → r ≡ Err x → go_on r next vs ≡ Err x
 unfolding go_on
 at-stop next r vs x e = rw e
 
 -- after a number is tried, the others
 module _ (due : Due) (v : ℕ) (vs : List ℕ) (h : (range due).high < 128 ^ suc record_more) where
-  number_at : (o : Outcome) (p : ℕ) → go_on (record { outcome = o; next = p }) (number due) (v ∷ vs)
-      ≡ go_on (tried (range due).broken (range due).low (range due).high v (record { outcome = o; next = p })) (after due v) vs
+  pub number-tried : (r : Trial) → go_on r (number due) (v ∷ vs) ≡ go_on (tried (range due).broken (range due).low (range due).high v r) (after due v) vs
   unfolding go_on tried ranges_from
-  number_at (Refused x) p = refl
-  number_at Accepted p = by (leb (range due).low v) (leb v (range due).high) refl
+  number-tried (Err x) = refl
+  number-tried (Ok p) = by (leb (range due).low v) (leb v (range due).high) refl
     where
       by : (a b : Bool) → leb v (range due).high ≡ b →
-          pick (a && b) (ranges_from vs (after due v) (p + length (shortest record_more v))) (Refused (refusal (range due).broken p))
+          pick (a && b) (ranges_from vs (after due v) (p + length (shortest record_more v))) (Err (refusal (range due).broken p))
           ≡ go_on (pick (a && b) (passed (p + length (shortest word_more v))) (stopped (range due).broken p)) (after due v) vs
       by true true e =
           ap (λ (w : List ℕ). ranges_from vs (after due v) (p + length w)) (sym (shortest-fewer record_more word_more v (omega (arith, leb-true v (range due).high e)) (omega arith)))
       by true false e = refl
       by false b e = refl
-
-  pub number-tried : (r : Trial) → go_on r (number due) (v ∷ vs) ≡ go_on (tried (range due).broken (range due).low (range due).high v r) (after due v) vs
-  number-tried r = number_at r.outcome r.next
 
 -- after a node's parents are tried, the others
 module _ (T : TaskTable) (i e w : ℕ) (ws : List ℕ) (o : 1 ≤ T.count) (c : T.count ≤ count_max) where
@@ -104,24 +103,23 @@ module _ (T : TaskTable) (i e w : ℕ) (ws : List ℕ) (o : 1 ≤ T.count) (c : 
 
   -- one is none
   parents-broken : (p : ℕ) → size_to T.count w < size w →
-      ranges_from (members count_max w ++ ws) (parent_from T i e (length (members count_max w)) 0 0) p ≡ Refused (refusal bad_parent (p + size_to T.count w))
+      ranges_from (members count_max w ++ ws) (parent_from T i e (length (members count_max w)) 0 0) p ≡ Err (refusal bad_parent (p + size_to T.count w))
   parents-broken p h = by (members-from T.count count_max w c)
     where
       by : (rest : List ℕ) × (members count_max w ≡ members T.count w ++ rest) × From T.count rest →
-          ranges_from (members count_max w ++ ws) (parent_from T i e (length (members count_max w)) 0 0) p ≡ Refused (refusal bad_parent (p + size_to T.count w))
+          ranges_from (members count_max w ++ ws) (parent_from T i e (length (members count_max w)) 0 0) p ≡ Err (refusal bad_parent (p + size_to T.count w))
       by (rest, q, none) = absurd (omega (arith, h, ap (length {A = ℕ}) (q ∙ append-nil (members T.count w)), length-members count_max w, length-members T.count w))
       by (rest, q, some {q = v} {qs = vs} b) =
-          let x = along-members (λ next place us. ranges_from us next place ≡ Refused (refusal bad_parent (p + length (members T.count w))))
+          let x = along-members (λ next place us. ranges_from us next place ≡ Err (refusal bad_parent (p + length (members T.count w))))
           (λ due u place us l g k. ranges_in due u us place l g ∙ k) T i e w T.count (suc (length vs)) p (v ∷ vs ++ ws) c (λ k l m. l)
           (λ low l. ranges-out (parent T i e (length vs) low (set_of T.count (digits w))) v (vs ++ ws) _ (inr (omega arith))) in
           let many : length (members count_max w) ≡ length (members T.count w) + suc (length vs) = ap (length {A = ℕ}) q ∙ length-append (members T.count w) (v ∷ vs) in
           rw (← (length-members T.count w), many, q, append_assoc (members T.count w) (v ∷ vs) ws) x
 
-  parents-at : (o : Outcome) (p : ℕ) → go_on (record { outcome = o; next = p }) (parent_from T i e (length (members count_max w)) 0 0) (members count_max w ++ ws)
-      ≡ go_on (parents_tried T.count w (record { outcome = o; next = p })) after-parents ws
+  parents-at : (r : Trial) → go_on r (parent_from T i e (length (members count_max w)) 0 0) (members count_max w ++ ws) ≡ go_on (parents_tried T.count w r) after-parents ws
   unfolding go_on parents_tried
-  parents-at (Refused x) p = refl
-  parents-at Accepted p = by (ltb (size_to T.count w) (size w)) refl
+  parents-at (Err x) = refl
+  parents-at (Ok p) = by (ltb (size_to T.count w) (size w)) refl
     where
       by : (t : Bool) → ltb (size_to T.count w) (size w) ≡ t →
           ranges_from (members count_max w ++ ws) (parent_from T i e (length (members count_max w)) 0 0) p
@@ -133,9 +131,9 @@ module _ (T : TaskTable) (i e w : ℕ) (ws : List ℕ) (o : 1 ≤ T.count) (c : 
   node-tried : (r : Trial) → go_on r (number (execution T i)) (node_numbers e w ++ ws) ≡ go_on (node_tried (least_execution T.edition) T.count e w r) after-parents ws
   node-tried r =
       let first = tried bad_execution (least_execution T.edition) execution_max e r in
-      let second = tried bad_parent 0 T.count (length (members count_max w)) first in
       number-tried (execution T i) e _ (omega arith) r ∙ number-tried (parent_count T i e) (length (members count_max w)) _ (omega arith) first
-      ∙ parents-at second.outcome second.next ∙ ap (λ (k : ℕ). go_on (parents_tried T.count w (tried bad_parent 0 T.count k first)) after-parents ws) (length-members count_max w)
+      ∙ parents-at (tried bad_parent 0 T.count (length (members count_max w)) first)
+      ∙ ap (λ (k : ℕ). go_on (parents_tried T.count w (tried bad_parent 0 T.count k first)) after-parents ws) (length-members count_max w)
 
 -- the numbers of a table's nodes: those of the nodes before node i are tried, and then the others, where a reader has read a table of this edition and count
 pub record Reached (t : TaskTable) (i : ℕ) (r : Trial) : Type 0 where

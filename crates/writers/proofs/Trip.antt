@@ -22,6 +22,7 @@ use Rattle.writers.specs.Writing.{filled, table_of, record_put, writing, write_c
 use Rattle.writers.proofs.Again.{read_again}
 use Rattle.writers.proofs.Back.{same-list, range-filling, table-ranges, record-read}
 use Rattle.writers.proofs.Parts.{at-filled}
+use Rattle.writers.proofs.Tried.{came}
 use Rattle.writers.proofs.Table.{filled-length, trial-ranges, trial-range}
 use Rattle.writers.proofs.Calls.{Passes, all-zero-filled, rules-pass, call-writing}
 
@@ -36,7 +37,8 @@ spelt s t (e, r, f) = ap reading_of e ∙ record-read t (range-filling t r f) r.
 pub passed-spells : (X P b : List ℕ) (x d p : ℕ) → length X ≡ length P → ((v : ℕ) → at P v < 2 ^ count_max) → Passes (table_of X P x d p) b →
     Spells (record_of (table_of X P x d p)) (table_of X P x d p)
 passed-spells X P b x d p same words pass =
-    let r = trial-range X P x d p (trial-ranges X P x d p ∙ pass.in-range) same words (all-zero-filled X ∙ pass.runs) in
+    let t = came _ (trial-ranges X P x d p ∙ pass.in-range) in
+    let r = trial-range X P x d p t.0 t.1 same words (all-zero-filled X ∙ pass.runs) in
     (refl, r.0, r.1)
 
 -- a table whose nodes are filled in is that of its own lists
@@ -52,7 +54,7 @@ module _ (t : TaskTable) (f : Filling t.count t) where
   own-length : (l : List ℕ) → length l ≡ count_max → length (take t.count l) ≡ t.count
   own-length l e = length-take-le t.count l (rw e f.size.1)
 
-  own-lists : table_of (take t.count t.execution) (take t.count t.parents) t.edition t.id t.period ≡ t
+  pub own-lists : table_of (take t.count t.execution) (take t.count t.parents) t.edition t.id t.period ≡ t
   own-lists = λ i. record {
     edition = t.edition;
     id = t.id;

@@ -1,11 +1,9 @@
 -- Writing as one definition: 19 "before all others where the lists differ in length"; 3 to 8; 21 "after 8 and before a short buffer"; 19 "after all others,
 -- where it is too short".
-use Rattle.std.specs.Prelude.{ℕ, ◌-◌, Bool, List, ◌++◌, eqb, ltb, length, drop, replicate}
+use Rattle.std.specs.Prelude.{ℕ, ◌-◌, Bool, List, ◌++◌, eqb, ltb, length, drop, replicate, Result, Ok, Err, ⊤}
 use Rattle.plain.specs.Pick.{pick}
 use Rattle.refusals.specs.Numbers.{wrong_length, none_runs}
 use Rattle.refusals.specs.declared.Refusal.{Refusal}
-use Rattle.refusals.specs.declared.Outcome.{Outcome}
-use Rattle.refusals.specs.declared.Outcome.TheVariants.{Accepted, Refused}
 use Rattle.refusals.specs.Refusal.{refusal, on_outcome}
 use Rattle.refusals.specs.InOrder.{in_order}
 use Rattle.refusals.specs.Answer.{accepted, refused}
@@ -31,12 +29,17 @@ table_of executions parents edition id period = record {
   parents = filled parents;
 }
 
+-- whether something was refused, without the value
+abbrev pub outcome_of : Result ℕ Refusal → Result ⊤ Refusal
+outcome_of (Ok value) = Ok tt
+outcome_of (Err r) = Err r
+
 -- a rule: where it is broken, its refusal
-abbrev pub unless : (broken : Bool) (number place : ℕ) → Outcome
-unless broken number place = pick broken (Refused (refusal number place)) Accepted
+abbrev pub unless : (broken : Bool) (number place : ℕ) → Result ⊤ Refusal
+unless broken number place = pick broken (Err (refusal number place)) (Ok tt)
 
 -- what is tried of a table and a buffer: its ranges; 21, "all executions are 0", at 0; 19, the buffer "is too short", at its length
-unfoldable pub before_writing : TaskTable → (bytes : List ℕ) → Outcome
+unfoldable pub before_writing : TaskTable → (bytes : List ℕ) → Result ⊤ Refusal
 before_writing t bytes =
     in_order (ranges (numbers_of t))
     (unless (all_zero t.execution t.count) none_runs 0)

@@ -1,20 +1,15 @@
--- `writers::write_table` meets its contract: the table's arrays have 64 entries, so that the first n of each are the lists that are written.
-use mathlib.Core.Path.{◌≡◌, sym}
+-- `writers::write_table` meets its contract: the table's arrays have 64 entries, so that the first n of each are lists of one length.
+use mathlib.Core.Path.{◌≡◌, sym, ◌∙◌}
 use native.Mathlib.Omega.{arith}
 use lib.ListN.{length}
 use lib.Seq.{length-take-le}
 use borrow.Author.Rules.{rules}
 use Rattle.tables.specs.Limits.{count_max}
+use Rattle.writers.proofs.Calls.{call-writing}
 use Rattle.writers.proofs.write_table.Goals as goal
 
-pub slice_bounds-executions-end : goal.slice_bounds-executions-end
-slice_bounds-executions-end c = let e : length c.args.table.execution ≡ count_max = search rules in omega arith
-
-pub slice_bounds-write_record-end : goal.slice_bounds-write_record-end
-slice_bounds-write_record-end c = let e : length c.args.table.execution ≡ count_max = search rules in sym (length-take-le _ _ (omega arith))
-
-pub slice_bounds-parents-end : goal.slice_bounds-parents-end
-slice_bounds-parents-end c = let e : length c.args.table.parents ≡ count_max = search rules in omega arith
-
-pub slice_bounds-write_record-end-2 : goal.slice_bounds-write_record-end-2
-slice_bounds-write_record-end-2 c = let e : length c.args.table.parents ≡ count_max = search rules in sym (length-take-le _ _ (omega arith))
+pub returns-clause-bytes_after : goal.returns-clause-bytes_after
+returns-clause-bytes_after c = let t = c.args.table in
+    let e : length t.execution ≡ count_max = search rules in
+    let p : length t.parents ≡ count_max = search rules in
+    c.write.ensures.bytes_after ∙ sym (call-writing _ _ _ _ _ _ (length-take-le t.count t.execution (omega arith) ∙ sym (length-take-le t.count t.parents (omega arith))))

@@ -1,15 +1,14 @@
 -- A trial of a record's numbers, in the code's own steps.
-use Rattle.std.specs.Prelude.{ℕ, zero, suc, ◌+◌, ◌*◌, ◌&&◌, List, length, leb, ltb}
+use Rattle.std.specs.Prelude.{ℕ, zero, suc, ◌+◌, ◌*◌, ◌&&◌, List, length, leb, ltb, Result, Ok, Err}
 use Rattle.plain.specs.Pick.{pick}
 use Rattle.plain.specs.At.{at}
 use Rattle.sets.specs.Size.{size_to, size}
 use Rattle.refusals.specs.Numbers.{bad_edition, bad_id, bad_period, bad_count, bad_execution, bad_parent}
-use Rattle.refusals.specs.declared.Outcome.TheVariants.{Accepted, Refused}
-use Rattle.refusals.specs.Refusal.{refusal, on_outcome}
+use Rattle.refusals.specs.declared.Refusal.{Refusal}
+use Rattle.refusals.specs.Refusal.{refusal}
 use Rattle.tables.specs.Limits.{edition_max, id_max, period_max, count_max, execution_max, least_execution}
 use Rattle.numbers.specs.Shortest.{shortest}
 use Rattle.numbers.specs.Inner.Word.{word_more}
-use Rattle.writers.specs.declared.Trial.{Trial}
 
 -- how far a node moves a trial on at most, and the four numbers before the nodes: two words, and a byte for each parent
 abbrev pub node_max : ℕ
@@ -19,17 +18,22 @@ node_max = 2 * suc word_more + count_max
 abbrev pub place_max : ℕ
 place_max = node_max + count_max * node_max
 
+-- the place after the last number, or the refusal of the first that is out of its range
+abbrev pub Trial : Type 0
+Trial = Result ℕ Refusal
+
 -- a trial that came as far as a place
 abbrev pub passed : (next : ℕ) → Trial
-passed next = record { outcome = Accepted; next = next }
+passed next = Ok next
 
 -- one that stopped at a place
 abbrev pub stopped : (number place : ℕ) → Trial
-stopped number place = record { outcome = Refused (refusal number place); next = place }
+stopped number place = Err (refusal number place)
 
 -- a trial that came through goes on from its place; one that stopped stays
 abbrev pub onward : Trial → (ℕ → Trial) → Trial
-onward r go = on_outcome (λ _. r) (go r.next) r.outcome
+onward (Ok place) go = go place
+onward (Err r) go = Err r
 
 -- a number, tried in low..high
 unfoldable pub tried : (broken low high v : ℕ) → Trial → Trial
