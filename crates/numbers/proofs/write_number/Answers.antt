@@ -1,19 +1,15 @@
 -- `numbers::write_number` meets its contract: each byte that is stored leaves the form of what is left to be stored after it.
 use Prim.Native.Nat.{ℕ, suc, ◌+◌, ◌/◌, ◌%◌, ◌^◌, ◌<◌}
-use mathlib.Core.Path.{◌≡◌, refl, sym, ap, ◌∙◌}
+use mathlib.Core.Path.{◌≡◌, sym, ap, ◌∙◌}
 use mathlib.Core.List.{[], ◌∷◌}
 use native.Mathlib.Numerals.{add-one}
 use native.Mathlib.Omega.{arith}
 use lib.ListN.{length, set, length-set}
 use lib.Seq.{sets}
 use Rattle.numbers.specs.Shortest.{shortest}
-use Rattle.numbers.specs.Inner.Word.{word_more}
 use Rattle.numbers.proofs.Shortest.{shortest-last, shortest-next}
 use Rattle.numbers.proofs.write_number.Goals as goal
 use Rattle.numbers.proofs.write_number.Goals.{After-loop-left, In-loop-left}
-
-pub loop-left-init : goal.loop-left-init
-loop-left-init c = (word_more, refl, refl, refl, omega arith)
 
 -- the byte that is stored, and the form after it; and the last byte
 next : (c : In-loop-left) → (let l = c.loop-left in
@@ -37,9 +33,6 @@ loop-left-preserved c = let l = c.loop-left in let n = next (goal.at.loop-left-p
 
 pub bounds-bytes-at-2 : goal.bounds-bytes-at-2
 bounds-bytes-at-2 c = omega (arith, ap length (last (goal.at.bounds-bytes-at-2 c).After-loop-left))
-
-pub shape_of-bytes : goal.shape_of-bytes
-shape_of-bytes c = let l = c.loop-left in length-set l.bytes l.at (l.left % 128) ∙ l.invariant.3
 
 pub returns : goal.returns
 returns c = let l = c.loop-left in let low : l.left % 128 ≡ l.left = omega (arith, c.loop-left-test.false) in
