@@ -1,12 +1,13 @@
 -- The definitions case by case: each test that the code makes picks one clause.
 use Prim.Native.Nat.{ℕ, zero, suc, ◌+◌, ◌-◌, ◌≤◌, ◌<◌}
-use mathlib.Core.Path.{◌≡◌, refl, sym, ap, ◌∙◌}
+use mathlib.Core.Path.{◌≡◌, refl, ap, ◌∙◌}
 use mathlib.Core.Logic.{◌⊎◌, ⊎_elim}
 use mathlib.Core.Bool.{and-false}
 use mathlib.Core.List.{List, [], ◌∷◌, ◌++◌}
 use native.Mathlib.Omega.{arith}
 use lib.ListN.{length, take, drop}
 use borrow.Author.Tests.{le-leb, lt-leb, le-ltb, lt-ltb}
+use Rattle.std.specs.Prelude.{Result, Ok, Err}
 use Rattle.plain.proofs.Lists.{part-from}
 use Rattle.refusals.specs.declared.Refusal.{Refusal}
 use Rattle.refusals.specs.Numbers.{bad_parent, bad_execution, bytes_follow}
@@ -14,52 +15,55 @@ use Rattle.refusals.specs.Refusal.{refusal}
 use Rattle.tables.specs.declared.TaskTable.{TaskTable}
 use Rattle.tables.specs.Limits.{execution_max, least_execution}
 use Rattle.numbers.specs.declared.Number.{Number}
+use Rattle.numbers.specs.declared.Fault.{Fault}
 use Rattle.numbers.specs.Number.{number, record_more}
 use Rattle.records.specs.Nodes.{with_node}
 use Rattle.menders.specs.declared.Spot.{Spot}
 use Rattle.menders.specs.declared.Taken.{Taken}
-use Rattle.menders.specs.declared.Taken.TheVariants.{Read, Refused}
+use Rattle.menders.specs.declared.Listed.{Listed}
 use Rattle.menders.specs.declared.Node.{Node}
 use Rattle.menders.specs.declared.Draft.{Draft}
-use Rattle.menders.specs.Taken.{then_taken, taken_of, any_form, taken}
-use Rattle.menders.specs.Listed.{no_list, whole_list, listed, parent_list}
+use Rattle.menders.specs.Taken.{Step, then_taken, then_of, taken_of, any_form, taken}
+use Rattle.menders.specs.Listed.{whole_list, listed, parent_list}
 use Rattle.menders.specs.Draft.{drawn, undrawn, no_more, nodes_taken}
 use Rattle.menders.specs.Inner.Node.{node_of}
 
 -- what was taken, and what was refused
-pub then-read : {A : Type 0} (out : Refusal → A) (step : Taken) (more : ℕ → Spot → A) (v : ℕ) (spot : Spot) → step ≡ Read v spot →
-    then_taken out step more ≡ more v spot
+pub then-read : {A : Type 0} (out : Refusal → A) (step : Step) (more : ℕ → Spot → A) (t : Taken) → step ≡ Ok t → then_taken out step more ≡ more t.value t.spot
 unfolding then_taken
-then-read out step more v spot e = rw e
+then-read out step more t e = rw e
 
-pub then-refused : {A : Type 0} (out : Refusal → A) (step : Taken) (more : ℕ → Spot → A) (r : Refusal) → step ≡ Refused r → then_taken out step more ≡ out r
+pub then-refused : {A : Type 0} (out : Refusal → A) (step : Step) (more : ℕ → Spot → A) (r : Refusal) → step ≡ Err r → then_taken out step more ≡ out r
 unfolding then_taken
 then-refused out step more r e = rw e
 
--- a refusal is the same whatever would have come after it
-pub then-out : {A : Type 0} (out : Refusal → A) (step found : Taken) (more instead : ℕ → Spot → A) (r : Refusal) →
-    found ≡ step → found ≡ Refused r → then_taken out found instead ≡ then_taken out step more
-then-out out step found more instead r e d = then-refused _ _ _ _ d ∙ sym (then-refused _ _ _ _ (sym e ∙ d))
+pub then-found : {T A : Type 0} (out : Refusal → A) (found : Result T Refusal) (more : T → A) (t : T) → found ≡ Ok t → then_of out found more ≡ more t
+unfolding then_of
+then-found out found more t e = rw e
+
+pub then-none : {T A : Type 0} (out : Refusal → A) (found : Result T Refusal) (more : T → A) (r : Refusal) → found ≡ Err r → then_of out found more ≡ out r
+unfolding then_of
+then-none out found more r e = rw e
 
 -- what the number reader found in the part that it was handed
-module _ (s : List ℕ) (spot : Spot) (found : Number) (e : found ≡ number record_more (take (length s - spot.at) (drop spot.at s))) where
-  pub any-is : (r : Number) → found ≡ r → any_form s spot ≡ taken_of (length s) spot r
+module _ (s : List ℕ) (spot : Spot) where
+  pub any-is : (r : Result Number Fault) → r ≡ number record_more (take (length s - spot.at) (drop spot.at s)) → taken_of (length s) spot r ≡ any_form s spot
   unfolding any_form
-  any-is r d = ap (taken_of (length s) spot) (ap (number record_more) (sym (part-from spot.at s)) ∙ sym e ∙ d)
+  any-is r e = ap (taken_of (length s) spot) (e ∙ ap (number record_more) (part-from spot.at s))
 
 -- a number that has a fault; one that has none, outside its range and in it
-pub taken_refused : (broken low high : ℕ) (s : List ℕ) (from : Spot) (r : Refusal) → any_form s from ≡ Refused r → taken broken low high s from ≡ Refused r
+pub taken_refused : (broken low high : ℕ) (s : List ℕ) (from : Spot) (r : Refusal) → any_form s from ≡ Err r → taken broken low high s from ≡ Err r
 unfolding taken
 taken_refused broken low high s from r e = then-refused _ _ _ _ e
 
-module _ (broken low high : ℕ) (s : List ℕ) (from : Spot) (v : ℕ) (spot : Spot) (e : any_form s from ≡ Read v spot) where
-  pub taken_out : (v < low) ⊎ (high < v) → taken broken low high s from ≡ Refused (refusal broken from.at)
+module _ (broken low high : ℕ) (s : List ℕ) (from : Spot) (t : Taken) (e : any_form s from ≡ Ok t) where
+  pub taken_out : (t.value < low) ⊎ (high < t.value) → taken broken low high s from ≡ Err (refusal broken from.at)
   unfolding taken
-  taken_out h = then-read _ _ _ _ _ e ∙ ⊎_elim (λ l. simp (lt-leb low v l)) (λ g. simp (lt-leb v high g, and-false)) h
+  taken_out h = then-read _ _ _ _ e ∙ ⊎_elim (λ l. simp (lt-leb low t.value l)) (λ g. simp (lt-leb t.value high g, and-false)) h
 
-  pub taken_in : low ≤ v → v ≤ high → taken broken low high s from ≡ Read v spot
+  pub taken_in : low ≤ t.value → t.value ≤ high → taken broken low high s from ≡ Ok t
   unfolding taken
-  taken_in l g = then-read _ _ _ _ _ e ∙ simp (le-leb low v l, le-leb v high g)
+  taken_in l g = then-read _ _ _ _ e ∙ simp (le-leb low t.value l, le-leb t.value high g)
 
 -- no parent left, and one more
 module _ (n : ℕ) (s : List ℕ) (spot : Spot) (given : List ℕ) where
@@ -68,11 +72,10 @@ module _ (n : ℕ) (s : List ℕ) (spot : Spot) (given : List ℕ) where
   listed-none zero h = refl
   listed-none (suc k) h = absurd (omega arith)
 
-  pub listed_more : (k : ℕ) → 0 < k → listed k n s spot given ≡
-      then_taken (λ r. no_list (Refused r)) (taken bad_parent 0 (n - 1) s spot) λ p next. listed (k - 1) n s next (given ++ p ∷ [])
+  pub listed_more : (i k : ℕ) → i < k → listed (k - i) n s spot given ≡
+      then_taken Err (taken bad_parent 0 (n - 1) s spot) λ p next. listed (k - (i + 1)) n s next (given ++ p ∷ [])
   unfolding listed
-  listed_more zero h = absurd (omega arith)
-  listed_more (suc k) h = let e : suc k - 1 ≡ k = omega arith in rw e
+  listed_more i k h = let e : k - i ≡ suc (k - (i + 1)) = omega arith in rw (e, listed)
 
 -- a byte follows, and none does
 module _ (t : TaskTable) (x y : ℕ) (s : List ℕ) (spot : Spot) where
@@ -91,21 +94,24 @@ module _ (i n : ℕ) (t : TaskTable) (x y : ℕ) (s : List ℕ) (spot : Spot) wh
   nodes-none h = let e : n - i ≡ 0 = omega arith in rw (e, nodes_taken)
 
   -- by the node as the code takes it
-  pub nodes-more : (least : ℕ) (node : Node) → least ≡ least_execution t.edition → i < n → t.count ≡ n → node ≡ node_of least n s spot →
+  pub nodes-more : (least : ℕ) → least ≡ least_execution t.edition → i < n → t.count ≡ n →
       nodes_taken (n - i) i t x y s spot ≡
-      then_taken undrawn node.list.taken λ w next.
-      nodes_taken (n - (i + 1)) (i + 1) (with_node t i node.execution w) (x + node.list.reordered) (y + node.list.dropped) s next
-  unfolding nodes_taken node_of then_taken
-  nodes-more least node q h d f =
+      then_of undrawn (node_of least n s spot) λ node.
+      nodes_taken (n - (i + 1)) (i + 1) (with_node t i node.execution node.list.set) (x + node.list.reordered) (y + node.list.dropped) s node.list.spot
+  unfolding nodes_taken node_of then_taken then_of
+  nodes-more least q h d =
       let e : n - i ≡ suc (n - (i + 1)) = omega arith in
-      rw (e, nodes_taken, ← d, ← q) (by (taken bad_execution least execution_max s spot) ∙ ap rest (sym (f ∙ ap (λ (k : ℕ). node_of least k s spot) (sym d))))
+      rw (e, nodes_taken, ← d, ← q) (by (taken bad_execution least execution_max s spot))
     where
       rest : Node → Draft
-      rest node =
-          then_taken undrawn node.list.taken λ w next.
-          nodes_taken (t.count - (i + 1)) (i + 1) (with_node t i node.execution w) (x + node.list.reordered) (y + node.list.dropped) s next
+      rest node = nodes_taken (t.count - (i + 1)) (i + 1) (with_node t i node.execution node.list.set) (x + node.list.reordered) (y + node.list.dropped) s node.list.spot
 
-      by : (step : Taken) → (then_taken undrawn step λ e next. rest (record { execution = e; list = parent_list t.count s next })) ≡
-          rest (then_taken (λ r. record { execution = 0; list = no_list (Refused r) }) step λ e next. record { execution = e; list = parent_list t.count s next })
-      by (Read v next) = refl
-      by (Refused r) = refl
+      list : (e : ℕ) (found : Result Listed Refusal) → then_of undrawn found (λ list. rest (record { execution = e; list = list })) ≡
+          then_of undrawn (then_of {A = Result Node Refusal} Err found λ list. Ok (record { execution = e; list = list })) rest
+      list e (Ok l) = refl
+      list e (Err r) = refl
+
+      by : (step : Step) → (then_taken undrawn step λ e next. then_of undrawn (parent_list t.count s next) λ list. rest (record { execution = e; list = list })) ≡
+          then_of undrawn (then_taken {A = Result Node Refusal} Err step λ e next. then_of Err (parent_list t.count s next) λ list. Ok (record { execution = e; list = list })) rest
+      by (Ok t) = list t.value _
+      by (Err r) = refl

@@ -13,7 +13,7 @@ use borrow.Author.Count as indices
 use borrow.Author.Tests.{ltb-true, ltb-false}
 use Rattle.plain.specs.Pick.{pick}
 use Rattle.plain.specs.At.{at}
-use Rattle.refusals.specs.declared.Outcome.TheVariants.{Accepted}
+use Rattle.std.specs.Prelude.{Ok}
 use Rattle.tables.specs.declared.TaskTable.{TaskTable}
 use Rattle.numbers.proofs.Cases.{clash}
 use Rattle.records.specs.Nodes.{with_node}
@@ -105,7 +105,7 @@ pub record Drawn (s : List ℕ) : Type 0 where
   pub gives : Gives s (draft_of s).table padded lists
   pub is : draft_of s ≡ drawn (draft_of s).table (counts_of padded lists)
 
-pub was-drawn : (s : List ℕ) → (draft_of s).outcome ≡ Accepted → Drawn s
+pub was-drawn : (s : List ℕ) → (draft_of s).outcome ≡ Ok tt → Drawn s
 was-drawn s e = by (comes s)
   where
     by : Comes s → Drawn s
@@ -115,5 +115,5 @@ was-drawn s e = by (comes s)
         let same : t ≡ (draft_of s).table = ap (λ (x : Draft). x.table) (sym q) in
         record { padded = padded; lists = lists; gives = rw same at m; is = q ∙ ap (λ (u : TaskTable). drawn u (counts_of padded lists)) same }
 
-pub drawn-filling : (s : List ℕ) → (draft_of s).outcome ≡ Accepted → Filling (draft_of s).table.count (draft_of s).table
+pub drawn-filling : (s : List ℕ) → (draft_of s).outcome ≡ Ok tt → Filling (draft_of s).table.count (draft_of s).table
 drawn-filling s e = (given-read (was-drawn s e).gives).filling

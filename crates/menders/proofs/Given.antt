@@ -11,13 +11,13 @@ use native.Mathlib.Omega.{arith}
 use lib.ListN.{length, drop, length-drop}
 use lib.Dec.{ltb}
 use borrow.Author.Tests.{ltb-true, ltb-false}
+use Rattle.std.specs.Prelude.{Result, Ok, Err}
 use Rattle.plain.specs.Pick.{pick}
 use Rattle.plain.specs.Sums.{total}
 use Rattle.plain.proofs.Lists.{lt-or-ge}
 use Rattle.plain.proofs.Sums.{total-behind}
 use Rattle.refusals.specs.declared.Refusal.{Refusal}
 use Rattle.refusals.specs.Refusal.{refusal}
-use Rattle.refusals.specs.declared.Outcome.TheVariants as outcome
 use Rattle.refusals.specs.Numbers.{ended, too_long, bad_edition, bad_id, bad_period, bad_count, bad_execution}
 use Rattle.tables.specs.declared.TaskTable.{TaskTable}
 use Rattle.tables.specs.Limits.{edition_max, id_max, period_max, count_max, execution_max, least_execution}
@@ -29,13 +29,11 @@ use Rattle.records.specs.Nodes.{with_node}
 use Rattle.records.specs.Reading.{headed}
 use Rattle.records.proofs.Expected.{ByRule, by-rule}
 use Rattle.menders.specs.declared.Spot.{Spot}
-use Rattle.menders.specs.declared.Taken.{Taken}
-use Rattle.menders.specs.declared.Taken.TheVariants.{Read, Refused}
 use Rattle.menders.specs.declared.Listed.{Listed}
 use Rattle.menders.specs.declared.Draft.{Draft}
 use Rattle.listings.specs.Lists.{list_set, reordered, dropped}
-use Rattle.menders.specs.Taken.{then_taken, taken_of, any_form, taken}
-use Rattle.menders.specs.Listed.{no_list, listed, parent_list}
+use Rattle.menders.specs.Taken.{Step, read, then_taken, then_of, taken_of, any_form, taken}
+use Rattle.menders.specs.Listed.{listed, parent_list}
 use Rattle.menders.specs.Draft.{drawn, undrawn, no_more, nodes_taken, draft_of}
 use Rattle.menders.specs.Given.{Due, range, Next, node_from, parent_from, after, Number, Meets, Refuses, Gives, counts_of}
 use Rattle.menders.specs.Given.Due.{edition, id, period, count, execution, parent_count, parent}
@@ -46,11 +44,11 @@ use Rattle.menders.specs.Given.Refuses.{ends, long, outside, follow}
 use Rattle.menders.proofs.Cases.{then-read, then-refused, taken_refused, taken_out, taken_in, some_more, none_more, nodes-none}
 
 -- the same after every value, and a list in its place
-then_same : {A : Type 0} (out : Refusal → A) (step : Taken) (more instead : ℕ → Spot → A) → ((v : ℕ) (next : Spot) → more v next ≡ instead v next) →
+then_same : {A : Type 0} (out : Refusal → A) (step : Step) (more instead : ℕ → Spot → A) → ((v : ℕ) (next : Spot) → more v next ≡ instead v next) →
     then_taken out step more ≡ then_taken out step instead
 unfolding then_taken
-then_same out (Read v next) more instead e = e v next
-then_same out (Refused r) more instead e = refl
+then_same out (Ok t) more instead e = e t.value t.spot
+then_same out (Err r) more instead e = refl
 
 -- what a draft still does from a spot on: from the node count, from the period, from the id, after a node's parents
 from_count : ℕ → ℕ → ℕ → List ℕ → Spot → Draft
@@ -62,10 +60,10 @@ from_period x d s spot = then_taken undrawn (taken bad_period 1 period_max s spo
 from_id : ℕ → List ℕ → Spot → Draft
 from_id x s spot = then_taken undrawn (taken bad_id 1 id_max s spot) λ d next. from_period x d s next
 
-from_list : List ℕ → TaskTable → (i : ℕ) → List (List ℕ) → (e : ℕ) → Listed → Draft
-from_list s t i lists e list =
-    then_taken undrawn list.taken λ w next.
-    nodes_taken (t.count - (i + 1)) (i + 1) (with_node t i e w) (total reordered lists + list.reordered) (total dropped lists + list.dropped) s next
+from_list : List ℕ → TaskTable → (i : ℕ) → List (List ℕ) → (e : ℕ) → Result Listed Refusal → Draft
+from_list s t i lists e found =
+    then_of undrawn found λ list.
+    nodes_taken (t.count - (i + 1)) (i + 1) (with_node t i e list.set) (total reordered lists + list.reordered) (total dropped lists + list.dropped) s list.spot
 
 onward : List ℕ → Spot → Next → Draft
 onward s spot (number edition) = then_taken undrawn (taken bad_edition 1 edition_max s spot) λ x next. from_id x s next
@@ -90,17 +88,17 @@ node-onward s spot t i lists = by (ltb i t.count) refl
 
 parent-onward : (s : List ℕ) (spot : Spot) (t : TaskTable) (i : ℕ) (lists : List (List ℕ)) (e left : ℕ) (given : List ℕ) →
     from_list s t i lists e (listed left t.count s spot given) ≡ onward s spot (parent_from t i lists e left given)
-unfolding then_taken listed onward from_list
+unfolding then_of listed onward from_list
 parent-onward s spot t i lists e zero given =
     ap₂ (λ (x y : ℕ). nodes_taken (t.count - (i + 1)) (i + 1) (with_node t i e (list_set given)) x y s spot) (sym (total-behind reordered lists given)) (sym (total-behind dropped lists given))
     ∙ node-onward s spot (with_node t i e (list_set given)) (i + 1) (lists ++ given ∷ [])
 parent-onward s spot t i lists e (suc left) given = refl
 
-list-then : (s : List ℕ) (t : TaskTable) (i : ℕ) (lists : List (List ℕ)) (e : ℕ) (step : Taken) (more : ℕ → Spot → Listed) →
-    from_list s t i lists e (then_taken (λ r. no_list (Refused r)) step more) ≡ then_taken undrawn step (λ v next. from_list s t i lists e (more v next))
-unfolding then_taken from_list
-list-then s t i lists e (Read v next) more = refl
-list-then s t i lists e (Refused r) more = refl
+list-then : (s : List ℕ) (t : TaskTable) (i : ℕ) (lists : List (List ℕ)) (e : ℕ) (step : Step) (more : ℕ → Spot → Result Listed Refusal) →
+    from_list s t i lists e (then_taken Err step more) ≡ then_taken undrawn step (λ v next. from_list s t i lists e (more v next))
+unfolding then_taken then_of from_list
+list-then s t i lists e (Ok found) more = refl
+list-then s t i lists e (Err r) more = refl
 
 -- it begins with the number that is expected there, tried in its range
 onward-step : (s : List ℕ) (spot : Spot) (d : Due) →
@@ -117,17 +115,17 @@ onward-step s spot (parent t i lists e left given) = list-then _ _ _ _ _ _ _ ∙
 
 -- the number at a place, by its form
 module _ (s : List ℕ) (at padded : ℕ) where
-  pub number_read : {v n more : ℕ} → Number (drop at s) v n more → any_form s (record { at = at; padded = padded }) ≡ Read v (record { at = at + n; padded = padded + more })
+  pub number_read : {v n more : ℕ} → Number (drop at s) v n more → any_form s (record { at = at; padded = padded }) ≡ read v (record { at = at + n; padded = padded + more })
   unfolding any_form
   number_read {v} {n} (as-shortest w) =
-      ap (taken_of (length s) (record { at = at; padded = padded })) (forms.whole-read record_more w.0 w.1) ∙ ap (λ (k : ℕ). Read v (record { at = at + n; padded = k })) (sym (add-zero padded))
+      ap (taken_of (length s) (record { at = at; padded = padded })) (forms.whole-read record_more w.0 w.1) ∙ ap (λ (k : ℕ). read v (record { at = at + n; padded = k })) (sym (add-zero padded))
   number_read (as-padded f w) = ap (taken_of (length s) (record { at = at; padded = padded })) (forms.padded-told record_more f.4 f.2 f.3 w)
 
-  ends_read : Ends record_more (drop at s) → any_form s (record { at = at; padded = padded }) ≡ Refused (refusal ended (length s))
+  ends_read : Ends record_more (drop at s) → any_form s (record { at = at; padded = padded }) ≡ Err (refusal ended (length s))
   unfolding any_form
   ends_read (k, h, l) = ap (taken_of (length s) (record { at = at; padded = padded })) (forms.ends_read record_more l h)
 
-  long-read : Long record_more (drop at s) → any_form s (record { at = at; padded = padded }) ≡ Refused (refusal too_long at)
+  long-read : Long record_more (drop at s) → any_form s (record { at = at; padded = padded }) ≡ Err (refusal too_long at)
   unfolding any_form
   long-read (rest, l) = ap (taken_of (length s) (record { at = at; padded = padded })) (forms.long-read record_more l)
 
@@ -142,18 +140,18 @@ module _ (s : List ℕ) where
   unfolding draft_of onward from_id from_period from_count
   reached begin = refl
   reached (on {place = at} {padded = padded} {v = v} {due = d} m w l h) =
-      reached m ∙ onward-step s _ d ∙ then-read _ _ _ _ _ (taken_in _ _ _ s _ v _ (number_read s at padded w) l h)
+      reached m ∙ onward-step s _ d ∙ then-read _ _ _ _ (taken_in _ _ _ s _ _ (number_read s at padded w) l h)
 
   -- so what is refused by a rule is refused by that number at that place, and what gives a table is read as it
   stops : {at padded : ℕ} {d : Due} {r : Refusal} → Meets s at padded (number d) →
-      taken (range d).broken (range d).low (range d).high s (record { at = at; padded = padded }) ≡ Refused r → draft_of s ≡ undrawn r
+      taken (range d).broken (range d).low (range d).high s (record { at = at; padded = padded }) ≡ Err r → draft_of s ≡ undrawn r
   stops {d = d} m q = reached m ∙ onward-step s _ d ∙ then-refused _ _ _ _ q
 
   pub rule-refused : {k place : ℕ} → Refuses s k place → draft_of s ≡ undrawn (refusal k place)
   unfolding onward
   rule-refused (ends {place = at} {padded = p} m f) = stops m (taken_refused _ _ _ s _ _ (ends_read s at p f))
   rule-refused (long {place = at} {padded = p} m f) = stops m (taken_refused _ _ _ s _ _ (long-read s at p f))
-  rule-refused (outside {place = at} {padded = p} m w o) = stops m (taken_out _ _ _ s _ _ _ (number_read s at p w) o)
+  rule-refused (outside {place = at} {padded = p} m w o) = stops m (taken_out _ _ _ s _ _ (number_read s at p w) o)
   rule-refused (follow {t = t} m h) = reached m ∙ some_more t _ _ s _ h
 
   pub given-drawn : {t : TaskTable} {padded : ℕ} {lists : List (List ℕ)} → Gives s t padded lists → draft_of s ≡ drawn t (counts_of padded lists)
@@ -201,7 +199,7 @@ module _ (s : List ℕ) where
   comes = comes-from (length s) 0 0 (number edition) (omega arith) begin
 
   -- and so a refusal is by its rule
-  pub refused-rule : (r : Refusal) → (draft_of s).outcome ≡ outcome.Refused r → ByRule (Refuses s) r
+  pub refused-rule : (r : Refusal) → (draft_of s).outcome ≡ Err r → ByRule (Refuses s) r
   refused-rule r q = by comes
     where
       by : Comes → ByRule (Refuses s) r

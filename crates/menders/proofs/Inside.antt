@@ -1,89 +1,94 @@
 -- No step leaves the given record, and a padded number has a byte at least; a list is reordered once at most, and no more parents are dropped than it has.
 use Prim.Native.Nat.{ℕ, zero, suc, ◌+◌, ◌-◌, ◌≤◌}
-use mathlib.Core.Path.{◌≡◌, refl, sym, ◌∙◌}
+use mathlib.Core.Path.{◌≡◌, refl, sym, subst}
 use mathlib.Core.Bool.{Bool, true, false, ◌&&◌}
 use mathlib.Core.List.{List, [], ◌∷◌, ◌++◌}
 use native.Mathlib.Omega.{arith}
-use lib.ListN.{length, drop, length-drop, length-append}
+use lib.ListN.{length, take, drop, length-drop, length-append}
 use lib.Dec.{leb}
 use borrow.Author.Tests.{leb-true}
+use Rattle.std.specs.Prelude.{Result, Ok, Err}
 use Rattle.plain.specs.Pick.{pick}
+use Rattle.refusals.specs.declared.Refusal.{Refusal}
 use Rattle.refusals.specs.Numbers.{bad_parent, bad_execution}
 use Rattle.refusals.specs.Refusal.{refusal}
 use Rattle.tables.specs.Limits.{execution_max}
 use Rattle.numbers.specs.declared.Number.{Number}
-use Rattle.numbers.specs.declared.Number.TheVariants.{Value, Ended, TooLong, NotShortest}
+use Rattle.numbers.specs.declared.Fault.{Fault}
+use Rattle.numbers.specs.declared.Fault.TheVariants.{Ended, TooLong, NotShortest}
 use Rattle.numbers.specs.Number.{number, record_more}
 use Rattle.numbers.proofs.Bounds.{value-bounded, padded-bounded}
 use Rattle.menders.specs.declared.Spot.{Spot}
 use Rattle.menders.specs.declared.Taken.{Taken}
-use Rattle.menders.specs.declared.Taken.TheVariants.{Read, Refused}
 use Rattle.menders.specs.declared.Listed.{Listed}
 use Rattle.menders.specs.declared.Node.{Node}
 use Rattle.listings.specs.Lists.{given_max, firsts, ascends, reordered}
-use Rattle.menders.specs.Taken.{then_taken, taken_of, any_form, taken}
-use Rattle.menders.specs.Listed.{no_list, listed, parent_list}
+use Rattle.menders.specs.Taken.{Step, read, then_taken, then_of, taken_of, any_form, taken}
+use Rattle.menders.specs.Listed.{listed, parent_list}
 use Rattle.menders.specs.Inner.Within.{Within}
 use Rattle.menders.specs.Inner.Node.{node_of}
+use Rattle.menders.proofs.Cases.{any-is}
 
 -- what was taken, inside, with a value that is as P says
-abbrev pub Inside : List ℕ → (ℕ → Type 0) → Taken → Type 0
-Inside s P (Read v spot) = P v × Within s spot
-Inside s P (Refused r) = Unit
-
--- where something was read
-pub read-inside : (s : List ℕ) (P : ℕ → Type 0) (step : Taken) (v : ℕ) (spot : Spot) → step ≡ Read v spot → Inside s P step → P v × Within s spot
-read-inside s P step v spot e i = rw e at i
+abbrev pub Inside : List ℕ → (ℕ → Type 0) → Step → Type 0
+Inside s P (Ok t) = P t.value × Within s t.spot
+Inside s P (Err r) = Unit
 
 -- a number in any form, and one in its range
 pub any-inside : (s : List ℕ) (from : Spot) → Within s from → Inside s (λ v. Unit {0}) (any_form s from)
 unfolding any_form
 any-inside s from (h, p) = by (number record_more (drop from.at s)) refl
   where
-    by : (r : Number) → number record_more (drop from.at s) ≡ r → Inside s (λ v. Unit {0}) (taken_of (length s) from r)
-    by (Value v n) e = let b = value-bounded record_more (drop from.at s) v n e in (tt, (omega (arith, b.within, length-drop from.at s), omega arith))
-    by Ended e = tt
-    by TooLong e = tt
-    by (NotShortest v n) e = let b = padded-bounded record_more (drop from.at s) v n e in (tt, (omega (arith, b.within, length-drop from.at s), omega (arith, b.some)))
+    by : (r : Result Number Fault) → number record_more (drop from.at s) ≡ r → Inside s (λ v. Unit {0}) (taken_of (length s) from r)
+    by (Ok r) e = let b = value-bounded record_more (drop from.at s) r.value r.length e in (tt, (omega (arith, b.within, length-drop from.at s), omega arith))
+    by (Err Ended) e = tt
+    by (Err TooLong) e = tt
+    by (Err (NotShortest r)) e = let b = padded-bounded record_more (drop from.at s) r.value r.length e in (tt, (omega (arith, b.within, length-drop from.at s), omega (arith, b.some)))
+
+pub reach : (s : List ℕ) (spot : Spot) (r : Number) → Ok r ≡ number record_more (take (length s - spot.at) (drop spot.at s)) → Within s spot → spot.at + r.length ≤ length s
+reach s spot r e w = (subst (Inside s (λ v. Unit {0})) (sym (any-is s spot (Ok r) e)) (any-inside s spot w)).1.0
+
+pub reach-padded : (s : List ℕ) (spot : Spot) (r : Number) → Err (NotShortest r) ≡ number record_more (take (length s - spot.at) (drop spot.at s)) → Within s spot →
+    Within s (record { at = spot.at + r.length; padded = spot.padded + 1 })
+reach-padded s spot r e w = (subst (Inside s (λ v. Unit {0})) (sym (any-is s spot (Err (NotShortest r)) e)) (any-inside s spot w)).1
 
 taken-inside : (broken low high : ℕ) (s : List ℕ) (from : Spot) → Within s from → Inside s (λ v. (low ≤ v) × (v ≤ high)) (taken broken low high s from)
 unfolding taken then_taken
 taken-inside broken low high s from w = step (any_form s from) (any-inside s from w)
   where
     by : (v : ℕ) (spot : Spot) → Within s spot → (l g : Bool) → leb low v ≡ l → leb v high ≡ g →
-        Inside s (λ v. (low ≤ v) × (v ≤ high)) (pick (l && g) (Read v spot) (Refused (refusal broken from.at)))
+        Inside s (λ v. (low ≤ v) × (v ≤ high)) (pick (l && g) (read v spot) (Err (refusal broken from.at)))
     by v spot w true true p q = ((leb-true low v p, leb-true v high q), w)
     by v spot w true false p q = tt
     by v spot w false true p q = tt
     by v spot w false false p q = tt
 
-    step : (r : Taken) → Inside s (λ v. Unit {0}) r →
-        Inside s (λ v. (low ≤ v) × (v ≤ high)) (then_taken Refused r λ v spot. pick (leb low v && leb v high) (Read v spot) (Refused (refusal broken from.at)))
-    step (Read v spot) i = by v spot i.1 (leb low v) (leb v high) refl refl
-    step (Refused r) i = tt
+    step : (r : Step) → Inside s (λ v. Unit {0}) r →
+        Inside s (λ v. (low ≤ v) × (v ≤ high)) (then_taken Err r λ v spot. pick (leb low v && leb v high) (read v spot) (Err (refusal broken from.at)))
+    step (Ok t) i = by t.value t.spot i.1 (leb low t.value) (leb t.value high) refl refl
+    step (Err r) i = tt
 
 -- a number that the code took and that passed its range
-pub record Passed (broken low high : ℕ) (s : List ℕ) (from : Spot) (v : ℕ) (spot : Spot) : Type 0 where
-  pub is : taken broken low high s from ≡ Read v spot
-  pub least : low ≤ v
-  pub most : v ≤ high
-  pub inside : Within s spot
+pub record Passed (broken low high : ℕ) (s : List ℕ) (from : Spot) (t : Taken) : Type 0 where
+  pub is : taken broken low high s from ≡ Ok t
+  pub least : low ≤ t.value
+  pub most : t.value ≤ high
+  pub inside : Within s t.spot
 
-pub passed : (broken low high : ℕ) (s : List ℕ) (from : Spot) (found : Taken) (v : ℕ) (spot : Spot) →
-    found ≡ taken broken low high s from → found ≡ Read v spot → Within s from → Passed broken low high s from v spot
-passed broken low high s from found v spot e d w =
-    let q : taken broken low high s from ≡ Read v spot = sym e ∙ d in
-    let i = read-inside s (λ v. (low ≤ v) × (v ≤ high)) _ v spot q (taken-inside broken low high s from w) in
-    record { is = q; least = i.0.0; most = i.0.1; inside = i.1 }
+pub passed : (broken low high : ℕ) (s : List ℕ) (from : Spot) (t : Taken) → Ok t ≡ taken broken low high s from → Within s from → Passed broken low high s from t
+passed broken low high s from t e w =
+    let i : (((low ≤ t.value) × (t.value ≤ high)) × Within s t.spot) = subst (Inside s (λ v. (low ≤ v) × (v ≤ high))) (sym e) (taken-inside broken low high s from w) in
+    record { is = sym e; least = i.0.0; most = i.0.1; inside = i.1 }
 
 -- a list of at most so many parents
-pub record Bounded (s : List ℕ) (most : ℕ) (list : Listed) : Type 0 where
-  pub inside : Inside s (λ w. Unit {0}) list.taken
+pub record Few (s : List ℕ) (most : ℕ) (list : Listed) : Type 0 where
+  pub inside : Within s list.spot
   pub once : list.reordered ≤ 1
   pub fewer : list.dropped ≤ most
 
-none-bounded : (s : List ℕ) (most : ℕ) (step : Taken) → Inside s (λ w. Unit {0}) step → Bounded s most (no_list step)
-none-bounded s most step i = record { inside = i; once = omega arith; fewer = omega arith }
+Bounded : List ℕ → (most : ℕ) → Result Listed Refusal → Type 0
+Bounded s most (Ok list) = Few s most list
+Bounded s most (Err r) = Unit
 
 reordered-once : (given : List ℕ) → reordered given ≤ 1
 reordered-once given = by (ascends (firsts given) 0)
@@ -92,29 +97,43 @@ reordered-once given = by (ascends (firsts given) 0)
     by true = omega arith
     by false = omega arith
 
+weaker : (s : List ℕ) (few most : ℕ) (found : Result Listed Refusal) → few ≤ most → Bounded s few found → Bounded s most found
+unfolding Bounded
+weaker s few most (Ok list) h b = record { inside = b.inside; once = b.once; fewer = omega (arith, b.fewer) }
+weaker s few most (Err r) h b = tt
+
 listed-bounded : (k n : ℕ) (s : List ℕ) (spot : Spot) (given : List ℕ) → Within s spot → Bounded s (length given + k) (listed k n s spot given)
-unfolding listed then_taken
-listed-bounded zero n s spot given w = record { inside = (tt, w); once = reordered-once given; fewer = omega arith }
+unfolding listed then_taken Bounded
+listed-bounded zero n s spot given w = record { inside = w; once = reordered-once given; fewer = omega arith }
 listed-bounded (suc k) n s spot given w = step (taken bad_parent 0 (n - 1) s spot) (taken-inside bad_parent 0 (n - 1) s spot w) λ p next w. listed-bounded k n s next (given ++ p ∷ []) w
   where
-    step : (r : Taken) → Inside s (λ v. (0 ≤ v) × (v ≤ n - 1)) r → ((p : ℕ) (next : Spot) → Within s next → Bounded s (length (given ++ p ∷ []) + k) (listed k n s next (given ++ p ∷ []))) →
-        Bounded s (length given + suc k) (then_taken (λ r. no_list (Refused r)) r λ p next. listed k n s next (given ++ p ∷ []))
-    step (Read p next) i again = let b = again p next i.1 in record { inside = b.inside; once = b.once; fewer = omega (arith, b.fewer, length-append given (p ∷ [])) }
-    step (Refused r) i again = none-bounded s _ (Refused r) tt
+    step : (r : Step) → Inside s (λ v. (0 ≤ v) × (v ≤ n - 1)) r → ((p : ℕ) (next : Spot) → Within s next → Bounded s (length (given ++ p ∷ []) + k) (listed k n s next (given ++ p ∷ []))) →
+        Bounded s (length given + suc k) (then_taken Err r λ p next. listed k n s next (given ++ p ∷ []))
+    step (Ok t) i again = weaker s _ _ _ (omega (arith, length-append given (t.value ∷ []))) (again t.value t.spot i.1)
+    step (Err r) i again = tt
 
 parents-bounded : (n : ℕ) (s : List ℕ) (spot : Spot) → Within s spot → Bounded s given_max (parent_list n s spot)
-unfolding parent_list then_taken
+unfolding parent_list then_taken Bounded
 parents-bounded n s spot w = step (taken bad_parent 0 given_max s spot) (taken-inside bad_parent 0 given_max s spot w)
   where
-    step : (r : Taken) → Inside s (λ v. (0 ≤ v) × (v ≤ given_max)) r → Bounded s given_max (then_taken (λ r. no_list (Refused r)) r λ k next. listed k n s next [])
-    step (Read k next) i = let b = listed-bounded k n s next [] i.1 in record { inside = b.inside; once = b.once; fewer = omega (arith, b.fewer, i.0.1) }
-    step (Refused r) i = none-bounded s _ (Refused r) tt
+    step : (r : Step) → Inside s (λ v. (0 ≤ v) × (v ≤ given_max)) r → Bounded s given_max (then_taken Err r λ k next. listed k n s next [])
+    step (Ok t) i = weaker s _ _ _ (omega (arith, i.0.1)) (listed-bounded t.value n s t.spot [] i.1)
+    step (Err r) i = tt
 
-pub node-bounded : (least n : ℕ) (s : List ℕ) (spot : Spot) → Within s spot → Bounded s given_max (node_of least n s spot).list
-unfolding node_of then_taken
-node-bounded least n s spot w = step (taken bad_execution least execution_max s spot) (taken-inside bad_execution least execution_max s spot w)
+-- and that of a node
+OfNode : List ℕ → Result Node Refusal → Type 0
+OfNode s (Ok node) = Few s given_max node.list
+OfNode s (Err r) = Unit
+
+pub node-bounded : (least n : ℕ) (s : List ℕ) (spot : Spot) (node : Node) → Ok node ≡ node_of least n s spot → Within s spot → Few s given_max node.list
+unfolding node_of then_taken then_of Bounded OfNode
+node-bounded least n s spot node e w = subst (OfNode s) (sym e) (step (taken bad_execution least execution_max s spot) (taken-inside bad_execution least execution_max s spot w))
   where
-    step : (r : Taken) → Inside s (λ v. (least ≤ v) × (v ≤ execution_max)) r →
-        Bounded s given_max (then_taken {A = Node} (λ r. record { execution = 0; list = no_list (Refused r) }) r λ e next. record { execution = e; list = parent_list n s next }).list
-    step (Read e next) i = parents-bounded n s next i.1
-    step (Refused r) i = none-bounded s _ (Refused r) tt
+    list : (e : ℕ) (found : Result Listed Refusal) → Bounded s given_max found → OfNode s (then_of {A = Result Node Refusal} Err found λ list. Ok (record { execution = e; list = list }))
+    list e (Ok l) b = b
+    list e (Err r) b = tt
+
+    step : (r : Step) → Inside s (λ v. (least ≤ v) × (v ≤ execution_max)) r →
+        OfNode s (then_taken {A = Result Node Refusal} Err r λ e next. then_of Err (parent_list n s next) λ list. Ok (record { execution = e; list = list }))
+    step (Ok t) i = list t.value _ (parents-bounded n s t.spot i.1)
+    step (Err r) i = tt

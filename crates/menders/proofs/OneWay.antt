@@ -32,7 +32,7 @@ module _ (s : List ℕ) where
   unfolding walk move
   walked begin = (0, refl)
   walked (on {place = at} {padded = padded} m w l h) = let e = walked m in
-      (suc e.0, ap (λ (x : Stand). move x.spot x.next) e.1 ∙ then-read _ _ _ _ _ (number_read s at padded w))
+      (suc e.0, ap (λ (x : Stand). move x.spot x.next) e.1 ∙ then-read _ _ _ _ (number_read s at padded w))
 
   -- and it stays where nothing is expected
   stays : (k j : ℕ) {spot : Spot} {t : TaskTable} {lists : List (List ℕ)} → walk k ≡ record { spot = spot; next = nothing t lists } → walk (k + j) ≡ record { spot = spot; next = nothing t lists }

@@ -4,7 +4,7 @@ use mathlib.Core.Path.{◌≡◌, sym, ap, ◌∙◌}
 use mathlib.Core.Bool.{false}
 use mathlib.Core.List.{List, ◌++◌}
 use lib.ListN.{length, drop}
-use Rattle.refusals.specs.declared.Outcome.TheVariants.{Accepted}
+use Rattle.std.specs.Prelude.{Ok}
 use Rattle.refusals.specs.Answer.{accepted}
 use Rattle.tables.specs.declared.TaskTable.{TaskTable}
 use Rattle.tables.specs.Runs.{all_zero}
@@ -35,5 +35,5 @@ strict-mended s bytes t e (is, r, full) h =
 
 -- what was mended
 pub mended-read : (given : List ℕ) → (let t = (draft_of given).table in
-    (draft_of given).outcome ≡ Accepted → all_zero t.execution t.count ≡ false → reading_of (record_of t) ≡ table_read t)
+    (draft_of given).outcome ≡ Ok tt → all_zero t.execution t.count ≡ false → reading_of (record_of t) ≡ table_read t)
 mended-read given e z = let t = (draft_of given).table in record-read t (drawn-filling given e) (some_runs t.execution t.count z)

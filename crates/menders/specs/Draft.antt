@@ -1,9 +1,8 @@
 -- A given record, number by number: the reader's layout and order.
-use Rattle.std.specs.Prelude.{ℕ, zero, suc, ◌+◌, List, length, ltb}
+use Rattle.std.specs.Prelude.{ℕ, zero, suc, ◌+◌, List, length, ltb, Result, Ok, Err}
 use Rattle.plain.specs.Pick.{pick}
 use Rattle.refusals.specs.Numbers.{bad_edition, bad_id, bad_period, bad_count, bad_execution, bytes_follow}
 use Rattle.refusals.specs.declared.Refusal.{Refusal}
-use Rattle.refusals.specs.declared.Outcome.TheVariants.{Accepted, Refused}
 use Rattle.refusals.specs.Refusal.{refusal}
 use Rattle.tables.specs.declared.TaskTable.{TaskTable}
 use Rattle.tables.specs.Limits.{edition_max, id_max, period_max, count_max, execution_max, least_execution}
@@ -12,8 +11,9 @@ use Rattle.records.specs.Nodes.{with_node}
 use Rattle.records.specs.Reading.{headed}
 use Rattle.menders.specs.declared.Counts.{Counts}
 use Rattle.menders.specs.declared.Spot.{Spot}
+use Rattle.menders.specs.declared.Found.{Found}
 use Rattle.menders.specs.declared.Draft.{Draft}
-use Rattle.menders.specs.Taken.{then_taken, taken}
+use Rattle.menders.specs.Taken.{then_taken, then_of, taken}
 use Rattle.menders.specs.Listed.{parent_list}
 
 -- "three zeros"
@@ -22,11 +22,16 @@ no_counts = record { padded = 0; reordered = 0; dropped = 0 }
 
 -- the table that was read, with its counts
 abbrev pub drawn : TaskTable → Counts → Draft
-drawn t counts = record { outcome = Accepted; table = t; counts = counts }
+drawn t counts = record { outcome = Ok tt; table = t; counts = counts }
 
 -- "from any reader of a table, a table that is all zeros", and no counts
 abbrev pub undrawn : Refusal → Draft
-undrawn r = record { outcome = Refused r; table = empty_table; counts = no_counts }
+undrawn r = record { outcome = Err r; table = empty_table; counts = no_counts }
+
+-- what an inner step returns, as a draft: the table with its counts, or the refusal
+abbrev pub drawn_from : Result Found Refusal → Draft
+drawn_from (Ok found) = drawn found.table found.counts
+drawn_from (Err r) = undrawn r
 
 -- "Nothing follows.": 9 stands at the "first such byte"
 unfoldable pub no_more : TaskTable → (reordered dropped : ℕ) → List ℕ → Spot → Draft
@@ -40,9 +45,8 @@ unfoldable pub nodes_taken : (k i : ℕ) → TaskTable → (reordered dropped : 
 nodes_taken zero i t reordered dropped bytes spot = no_more t reordered dropped bytes spot
 nodes_taken (suc k) i t reordered dropped bytes spot =
     then_taken undrawn (taken bad_execution (least_execution t.edition) execution_max bytes spot) λ e spot₁.
-    (let list = parent_list t.count bytes spot₁ in
-    then_taken undrawn list.taken λ w spot₂.
-    nodes_taken k (i + 1) (with_node t i e w) (reordered + list.reordered) (dropped + list.dropped) bytes spot₂)
+    then_of undrawn (parent_list t.count bytes spot₁) λ list.
+    nodes_taken k (i + 1) (with_node t i e list.set) (reordered + list.reordered) (dropped + list.dropped) bytes list.spot
 
 -- "A record is, in order: edition", 1 or 2, "task id (1..65,535); period (1..16,777,215); node count n (1..64);" and then the nodes
 unfoldable pub draft_of : List ℕ → Draft

@@ -1,49 +1,50 @@
 // Mends a task record that a sloppy editor wrote: reads it leniently, counting what is to be mended, and has its table written anew.
 #![tactic(auto)]
 
-ghost use Rattle.std.specs.Prelude.{◌≡◌, [], ◌≤◌, length};
-ghost use Rattle.refusals.specs.Refusal.{refusal};
+ghost use Rattle.std.specs.Prelude.{◌≡◌, [], ◌+◌, ◌^◌, ◌<◌, ◌≤◌, length};
+ghost use Rattle.refusals.specs.Numbers.{number_of};
 ghost use Rattle.tables.specs.Limits.{count_max};
-ghost use Rattle.tables.specs.Table.{empty_table};
 ghost use Rattle.listings.specs.Lists.{given_max};
-ghost use Rattle.menders.specs.Taken.{then_taken, any_form, taken};
-ghost use Rattle.menders.specs.Listed.{no_list, listed, parent_list};
-ghost use Rattle.menders.specs.Draft.{no_counts, drawn, undrawn, nodes_taken, draft_of};
-ghost use Rattle.menders.specs.Mending.{mend_call};
+ghost use Rattle.menders.specs.Taken.{any_form, taken};
+ghost use Rattle.menders.specs.Listed.{listed, parent_list};
+ghost use Rattle.menders.specs.Draft.{drawn_from, nodes_taken, draft_of};
+ghost use Rattle.menders.specs.Mending.{mending_of, mend_call};
 ghost use Rattle.menders.specs.Inner.Within.{Within};
 ghost use Rattle.menders.specs.Inner.Node.{node_of};
 
-use numbers::Number;
-use refusals::{Answer, Outcome, Refusal};
+use listings::Listing;
+use numbers::{Fault, Number};
+use refusals::{Answer, Reason, Refusal};
 use tables::TaskTable;
 
 // A given parent count is at most this.
 const PARENTS_MAX: u64 = 255;
 
 // How far the given record was read, and how many of the numbers before that place are padded.
-#[derive(Clone, Copy)]
+#[derive(Clone, Copy, Debug, PartialEq, Eq)]
 pub struct Spot {
     pub at: usize,
     pub padded: u64,
 }
 
-// A value and the spot after it, or a refusal.
-#[derive(Clone, Copy)]
-pub enum Taken {
-    Read { value: u64, spot: Spot },
-    Refused(Refusal),
+// A value and the spot after it.
+#[derive(Clone, Copy, Debug, PartialEq, Eq)]
+pub struct Taken {
+    pub value: u64,
+    pub spot: Spot,
 }
 
-// A list of parents that was read, its set as the value; or a refusal beside zeros.
-#[derive(Clone, Copy)]
+// A list of parents that was read: its set, what is to be mended of it, and the spot after it.
+#[derive(Clone, Copy, Debug, PartialEq, Eq)]
 pub struct Listed {
-    pub taken: Taken,
+    pub set: u64,
     pub reordered: u64,
     pub dropped: u64,
+    pub spot: Spot,
 }
 
-// A node's execution beside its list of parents; where the execution is refused, its refusal.
-#[derive(Clone, Copy)]
+// A node's execution beside its list of parents.
+#[derive(Clone, Copy, Debug, PartialEq, Eq)]
 pub struct Node {
     pub execution: u64,
     pub list: Listed,
@@ -51,286 +52,214 @@ pub struct Node {
 
 // What is to be mended of a record: numbers padded, lists reordered, parents dropped.
 #[repr(C)]
-#[derive(Clone, Copy)]
+#[derive(Clone, Copy, Debug, Default, PartialEq, Eq)]
 pub struct Counts {
     pub padded: u64,
     pub reordered: u64,
     pub dropped: u64,
 }
 
-// What a given record comes to. A refusal has a table that is all zeros, and no counts.
+// The table of a given record, and what is to be mended of it.
+#[derive(Clone, Copy)]
+pub struct Found {
+    pub table: TaskTable,
+    pub counts: Counts,
+}
+
+// What a given record comes to. No `Result`, since document 01 has a refusal come "from any reader of a table", with "a table that is all zeros"; it has no counts.
 #[derive(Clone, Copy)]
 pub struct Draft {
-    pub outcome: Outcome,
+    pub outcome: Result<(), Refusal>,
     pub table: TaskTable,
     pub counts: Counts,
 }
 
 // The answer, and the counts of what was mended. C reads both structs as seven words in a row.
 #[repr(C)]
-#[derive(Clone, Copy)]
+#[derive(Clone, Copy, Debug, PartialEq, Eq)]
 pub struct Mending {
     pub answer: Answer,
     pub counts: Counts,
 }
 
-impl Counts {
-    // Nothing to be mended.
-    pub fn none() -> Counts
-        ensures { result ≡ no_counts }
-    {
-        Counts {
-            padded: 0,
-            reordered: 0,
-            dropped: 0,
-        }
-    }
-}
-
-fn refuse(number: u64, place: usize) -> Taken
-    ensures { result ≡ Taken.Refused (refusal number place) }
+// A number that was found at a place, with the spot after it and the numbers that are padded so far.
+fn after(number: Number, at: usize, padded: u64) -> Taken
+    requires { at + number.length < 2 ^ 64 }
+    ensures { result ≡ record { value = number.value; spot = record { at = at + number.length; padded = padded } } }
 {
-    Taken::Refused(Refusal::of(number, place))
-}
-
-fn read(value: u64, at: usize, padded: u64) -> Taken
-    ensures { result ≡ Taken.Read value (record { at = at; padded = padded }) }
-{
-    Taken::Read {
-        value,
-        spot: Spot { at, padded },
+    Taken {
+        value: number.value,
+        spot: Spot {
+            at: at + number.length,
+            padded,
+        },
     }
 }
 
 // The number at a spot, in any form.
-fn take_any_form(bytes: &[u8], spot: Spot) -> Taken
+fn take_any_form(bytes: &[u8], spot: Spot) -> Result<Taken, Refusal>
     requires { Within bytes.now spot }
     ensures { result ≡ any_form bytes.now spot }
 {
-    let at = spot.at;
-    let padded = spot.padded;
-    let found = numbers::read_number(&bytes[at..]);
-    match found {
-        Number::Value { value, length } => read(value, at + length, padded),
-        Number::NotShortest { value, length } => read(value, at + length, padded + 1),
-        Number::Ended => refuse(Refusal::ENDED, bytes.len()),
-        Number::TooLong => refuse(Refusal::TOO_LONG, at),
+    match numbers::read_number(&bytes[spot.at..]) {
+        Ok(number) => Ok(after(number, spot.at, spot.padded)),
+        Err(Fault::NotShortest(number)) => Ok(after(number, spot.at, spot.padded + 1)),
+        Err(Fault::Ended) => Err(Reason::Ended.at(bytes.len())),
+        Err(Fault::TooLong) => Err(Reason::TooLong.at(spot.at)),
     }
 }
 
 // The number at a spot, and only then its range.
-fn take_number(bytes: &[u8], from: Spot, broken: u64, low: u64, high: u64) -> Taken
+fn take_number(
+    bytes: &[u8],
+    from: Spot,
+    broken: Reason,
+    low: u64,
+    high: u64,
+) -> Result<Taken, Refusal>
     requires { Within bytes.now from }
-    ensures { result ≡ taken broken low high bytes.now from }
+    ensures { result ≡ taken (number_of broken) low high bytes.now from }
 {
-    let step = take_any_form(bytes, from);
-    let Taken::Read { value, spot } = step else {
-        return step;
-    };
-    if value < low || high < value {
-        return refuse(broken, from.at);
+    let taken = take_any_form(bytes, from)?;
+    if !(low..=high).contains(&taken.value) {
+        return Err(broken.at(from.at));
     }
-    Taken::Read { value, spot }
-}
-
-// A refusal in place of a list.
-fn no_list(step: Taken) -> Listed
-    ensures { result ≡ no_list step }
-{
-    Listed {
-        taken: step,
-        reordered: 0,
-        dropped: 0,
-    }
+    Ok(taken)
 }
 
 // As many parents as count says, each below n.
-fn take_list(bytes: &[u8], from: Spot, count: u64, n: u64) -> Listed
+fn take_list(bytes: &[u8], from: Spot, count: u64, n: u64) -> Result<Listed, Refusal>
     requires { (1 ≤ n) × (n ≤ count_max) × (count ≤ given_max) × Within bytes.now from }
     ensures { result ≡ listed count n bytes.now from [] }
 {
-    let mut list = listings::none(from.padded);
-    let mut left = count;
-    let mut at = from.at;
-    while 0 < left {
-        let here = Spot {
-            at,
-            padded: list.padded,
-        };
-        let step = take_number(bytes, here, Refusal::BAD_PARENT, 0, n - 1);
-        let Taken::Read { value, spot } = step else {
-            return no_list(step);
-        };
-        list = listings::with_parent(list, value, spot.padded);
-        at = spot.at;
-        left -= 1;
+    let mut list = Listing::none(from.padded);
+    let mut spot = from;
+    for _ in 0..count {
+        let parent = take_number(bytes, spot, Reason::BadParent, 0, n - 1)?;
+        spot = parent.spot;
+        list = list.with_parent(parent.value, spot.padded);
     }
-    let spot = Spot {
-        at,
-        padded: list.padded,
-    };
-    Listed {
-        taken: Taken::Read {
-            value: list.set,
-            spot,
-        },
+    Ok(Listed {
+        set: list.set,
         reordered: list.reordered,
         dropped: list.dropped,
-    }
+        spot,
+    })
 }
 
 // The parent count at a spot, and that many parents.
-fn take_parent_list(bytes: &[u8], from: Spot, n: u64) -> Listed
+fn take_parent_list(bytes: &[u8], from: Spot, n: u64) -> Result<Listed, Refusal>
     requires { (1 ≤ n) × (n ≤ count_max) × Within bytes.now from }
     ensures { result ≡ parent_list n bytes.now from }
 {
-    let step = take_number(bytes, from, Refusal::BAD_PARENT, 0, PARENTS_MAX);
-    let Taken::Read { value, spot } = step else {
-        return no_list(step);
-    };
-    take_list(bytes, spot, value, n)
+    let count = take_number(bytes, from, Reason::BadParent, 0, PARENTS_MAX)?;
+    take_list(bytes, count.spot, count.value, n)
 }
 
 // A node's execution, at least `least`, and its parents, each below n.
-fn take_node(bytes: &[u8], from: Spot, least: u64, n: u64) -> Node
+fn take_node(bytes: &[u8], from: Spot, least: u64, n: u64) -> Result<Node, Refusal>
     requires { (1 ≤ n) × (n ≤ count_max) × Within bytes.now from }
     ensures { result ≡ node_of least n bytes.now from }
 {
     let longest = TaskTable::EXECUTION_MAX;
-    let step = take_number(bytes, from, Refusal::BAD_EXECUTION, least, longest);
-    let Taken::Read { value, spot } = step else {
-        return Node {
-            execution: 0,
-            list: no_list(step),
-        };
-    };
-    Node {
-        execution: value,
-        list: take_parent_list(bytes, spot, n),
-    }
-}
-
-// A refusal on its way out, beside a table that is all zeros.
-fn turned_away(step: Taken) -> Draft
-    ensures { result ≡ then_taken undrawn step (λ _ _. drawn empty_table no_counts) }
-{
-    let table = TaskTable::empty();
-    let counts = Counts::none();
-    match step {
-        Taken::Read { value: _, spot: _ } => Draft {
-            outcome: Outcome::Accepted,
-            table,
-            counts,
-        },
-        Taken::Refused(refusal) => Draft {
-            outcome: Outcome::Refused(refusal),
-            table,
-            counts,
-        },
-    }
+    let execution = take_number(bytes, from, Reason::BadExecution, least, longest)?;
+    let list = take_parent_list(bytes, execution.spot, n)?;
+    Ok(Node {
+        execution: execution.value,
+        list,
+    })
 }
 
 // The nodes of a table whose head was read, into it, and nothing after them.
-fn take_nodes(bytes: &[u8], from: Spot, head: TaskTable) -> Draft
+fn take_nodes(bytes: &[u8], from: Spot, head: TaskTable) -> Result<Found, Refusal>
     requires { (1 ≤ head.count) × (head.count ≤ count_max) × Within bytes.now from }
-    ensures { result ≡ nodes_taken head.count 0 head 0 0 bytes.now from }
+    ensures { drawn_from result ≡ nodes_taken head.count 0 head 0 0 bytes.now from }
 {
-    let n = head.count;
     let least = tables::least_execution(head.edition);
     let mut table = head;
-    let mut reordered: u64 = 0;
-    let mut dropped: u64 = 0;
+    let mut counts = Counts::default();
     let mut spot = from;
-    let mut i: usize = 0;
-    while i < n {
-        let node = take_node(bytes, spot, least, n as u64);
-        let list = node.list;
-        let step = list.taken;
-        let Taken::Read { value, spot: after } = step else {
-            return turned_away(step);
-        };
-        table.execution[i] = node.execution;
-        table.parents[i] = value;
-        reordered += list.reordered;
-        dropped += list.dropped;
-        spot = after;
-        i += 1;
+    for v in 0..head.count {
+        let node = take_node(bytes, spot, least, head.count as u64)?;
+        table.execution[v] = node.execution;
+        table.parents[v] = node.list.set;
+        counts.reordered += node.list.reordered;
+        counts.dropped += node.list.dropped;
+        spot = node.list.spot;
     }
     if spot.at < bytes.len() {
-        return turned_away(refuse(Refusal::BYTES_FOLLOW, spot.at));
+        return Err(Reason::BytesFollow.at(spot.at));
     }
-    let counts = Counts {
-        padded: spot.padded,
-        reordered,
-        dropped,
+    counts.padded = spot.padded;
+    Ok(Found { table, counts })
+}
+
+// The table of a given record, and its counts.
+fn take_table(bytes: &[u8]) -> Result<Found, Refusal>
+    ensures { drawn_from result ≡ draft_of bytes.now }
+{
+    let begin = Spot { at: 0, padded: 0 };
+    let edition = take_number(bytes, begin, Reason::BadEdition, 1, TaskTable::EDITION_MAX)?;
+    let id = take_number(bytes, edition.spot, Reason::BadId, 1, TaskTable::ID_MAX)?;
+    let period = take_number(bytes, id.spot, Reason::BadPeriod, 1, TaskTable::PERIOD_MAX)?;
+    let count = take_number(
+        bytes,
+        period.spot,
+        Reason::BadCount,
+        1,
+        TaskTable::COUNT_MAX,
+    )?;
+    let head = TaskTable {
+        edition: edition.value,
+        id: id.value,
+        period: period.value,
+        count: count.value as usize,
+        ..TaskTable::empty()
     };
-    Draft {
-        outcome: Outcome::Accepted,
-        table,
-        counts,
-    }
+    take_nodes(bytes, count.spot, head)
 }
 
 // The table that a given record holds, with its counts; or the refusal of the first rule that it breaks.
 pub fn read_draft(bytes: &[u8]) -> Draft
     ensures { result ≡ draft_of bytes.now }
 {
-    let spot = Spot { at: 0, padded: 0 };
-    let first = take_number(bytes, spot, Refusal::BAD_EDITION, 1, TaskTable::EDITION_MAX);
-    let Taken::Read {
-        value: edition,
-        spot,
-    } = first
-    else {
-        return turned_away(first);
-    };
-    let second = take_number(bytes, spot, Refusal::BAD_ID, 1, TaskTable::ID_MAX);
-    let Taken::Read { value: id, spot } = second else {
-        return turned_away(second);
-    };
-    let third = take_number(bytes, spot, Refusal::BAD_PERIOD, 1, TaskTable::PERIOD_MAX);
-    let Taken::Read {
-        value: period,
-        spot,
-    } = third
-    else {
-        return turned_away(third);
-    };
-    let fourth = take_number(bytes, spot, Refusal::BAD_COUNT, 1, TaskTable::COUNT_MAX);
-    let Taken::Read { value: count, spot } = fourth else {
-        return turned_away(fourth);
-    };
-    let head = TaskTable {
-        edition,
-        id,
-        period,
-        count: count as usize,
-        execution: [0; 64],
-        parents: [0; 64],
-    };
-    take_nodes(bytes, spot, head)
+    match take_table(bytes) {
+        Ok(found) => Draft {
+            outcome: Ok(()),
+            table: found.table,
+            counts: found.counts,
+        },
+        Err(refusal) => Draft {
+            outcome: Err(refusal),
+            table: TaskTable::empty(),
+            counts: Counts::default(),
+        },
+    }
 }
 
-// Writes the mended record of a given one: what its table's record is. Where the reading or the writing refuses, nothing was mended.
+// The length of the mended record, and what was mended. Where the reading or the writing refuses, nothing was.
+fn write_mended(given: &[u8], bytes: &mut [u8]) -> Result<(u64, Counts), Refusal>
+    ensures { record { after = record { answer = (mending_of result).answer; lent = bytes.new }; counts = (mending_of result).counts } ≡ mend_call given.now bytes.old }
+{
+    let draft = read_draft(given);
+    draft.outcome?;
+    let size = writers::write_table(draft.table, bytes)?;
+    Ok((size, draft.counts))
+}
+
+// Writes the mended record of a given one: what its table's record is. C reads the answer and the counts.
 pub fn mend(given: &[u8], bytes: &mut [u8]) -> Mending
     ensures counts_after { record { after = record { answer = result.answer; lent = bytes.new }; counts = result.counts } ≡ mend_call given.now bytes.old }
     ensures value_in_bounds { result.answer.value ≤ length bytes.old }
 {
-    let draft = read_draft(given);
-    let outcome = draft.outcome;
-    let Outcome::Accepted = outcome else {
-        return Mending {
-            answer: refusals::answer_of(outcome),
-            counts: Counts::none(),
-        };
-    };
-    let answer = writers::write_table(draft.table, bytes);
-    if answer.refusal != 0 {
-        return Mending {
-            answer,
-            counts: Counts::none(),
-        };
+    match write_mended(given, bytes) {
+        Ok((size, counts)) => Mending {
+            answer: Answer::accepted(size),
+            counts,
+        },
+        Err(refusal) => Mending {
+            answer: Answer::refused(refusal),
+            counts: Counts::default(),
+        },
     }
-    let counts = draft.counts;
-    Mending { answer, counts }
 }

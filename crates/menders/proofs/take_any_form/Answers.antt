@@ -1,40 +1,32 @@
 -- `menders::take_any_form` meets its contract: what the number reader found in the part from the spot on is told as `taken_of` says.
-use Prim.Native.Nat.{◌+◌}
-use mathlib.Core.Path.{◌≡◌, sym, ◌∙◌}
+use Prim.Native.Nat.{◌+◌, ◌≤◌}
+use mathlib.Core.Path.{ap, ◌∙◌}
 use native.Mathlib.Omega.{arith}
+use lib.ListN.{length}
 use borrow.Author.Rules.{rules}
-use Rattle.menders.specs.declared.Taken.TheVariants.{Read}
-use Rattle.menders.specs.Taken.{any_form}
+use Rattle.std.specs.Prelude.{Ok, Err}
+use Rattle.refusals.specs.declared.Refusal.{Refusal}
+use Rattle.numbers.specs.declared.Fault.TheVariants.{Ended, TooLong, NotShortest}
+use Rattle.menders.specs.declared.Taken.{Taken}
 use Rattle.menders.proofs.Cases.{any-is}
-use Rattle.menders.proofs.Inside.{read-inside, any-inside}
+use Rattle.menders.proofs.Inside.{reach, reach-padded}
 use Rattle.menders.proofs.take_any_form.Goals as goal
-use Rattle.menders.proofs.take_any_form.Goals.{In-NotShortest, In-Value}
 
--- a value, and a padded one
-value : (c : In-Value) → (let a = c.args in
-    any_form a.bytes.now a.spot ≡ Read c.in-Value.value (record { at = a.spot.at + c.in-Value.length; padded = a.spot.padded }))
-value c = any-is _ _ _ c.read_number-found.ensures _ c.in-Value.is
+pub returns-in-Err-NotShortest : goal.returns-in-Err-NotShortest
+returns-in-Err-NotShortest c =
+    rw (← (any-is c.args.bytes.now c.args.spot (Err (NotShortest c.in-Err-NotShortest.number)) (rw c.in-Err-NotShortest.field-0-is at c.in-Err-NotShortest.ensures))) (search rules)
 
-worth : (c : In-NotShortest) → (let a = c.args in
-    any_form a.bytes.now a.spot ≡ Read c.in-NotShortest.value (record { at = a.spot.at + c.in-NotShortest.length; padded = a.spot.padded + 1 }))
-worth c = any-is _ _ _ c.read_number-found.ensures _ c.in-NotShortest.is
+pub returns-in-Ok : goal.returns-in-Ok
+returns-in-Ok c = ap (λ (t : Taken). Ok t) c.after.ensures ∙ any-is _ _ (Ok c.in-Ok.number) c.in-Ok.ensures
 
-pub returns-in-NotShortest : goal.returns-in-NotShortest
-returns-in-NotShortest c = rw (worth (goal.at.returns-in-NotShortest c).In-NotShortest) (search rules)
+pub returns-in-Err-Ended : goal.returns-in-Err-Ended
+returns-in-Err-Ended c = ap (λ (r : Refusal). Err r) c.at.ensures ∙ any-is _ _ (Err Ended) (rw c.in-Err-Ended.field-0-is at c.in-Err-Ended.ensures)
 
-pub overflow_add-at : goal.overflow_add-at
-overflow_add-at c = let i = read-inside _ _ _ _ _ (value (goal.at.overflow_add-at c).In-Value) (any-inside _ _ c.requires) in
-    omega arith
+pub returns-in-Err-TooLong : goal.returns-in-Err-TooLong
+returns-in-Err-TooLong c = ap (λ (r : Refusal). Err r) c.at-in-Err-TooLong.ensures ∙ any-is _ _ (Err TooLong) (rw c.in-Err-TooLong.field-0-is at c.in-Err-TooLong.ensures)
 
-pub overflow_add-at-in-NotShortest : goal.overflow_add-at-in-NotShortest
-overflow_add-at-in-NotShortest c = let i = read-inside _ _ _ _ _ (worth (goal.at.overflow_add-at-in-NotShortest c).In-NotShortest) (any-inside _ _ c.requires) in
-    omega arith
+pub after-requires : goal.after-requires
+after-requires c = let i : c.args.spot.at + c.in-Ok.number.length ≤ length c.args.bytes.now = reach _ _ _ c.in-Ok.ensures c.requires in omega arith
 
-pub returns-in-Value : goal.returns-in-Value
-returns-in-Value c = c.read.ensures ∙ sym (value (goal.at.returns-in-Value c).In-Value)
-
-pub returns-in-Ended : goal.returns-in-Ended
-returns-in-Ended c = c.refuse.ensures ∙ sym (any-is _ _ _ c.read_number-found.ensures _ c.in-Ended.is)
-
-pub returns-in-TooLong : goal.returns-in-TooLong
-returns-in-TooLong c = c.refuse-in-TooLong.ensures ∙ sym (any-is _ _ _ c.read_number-found.ensures _ c.in-TooLong.is)
+pub after-requires-in-Err-NotShortest : goal.after-requires-in-Err-NotShortest
+after-requires-in-Err-NotShortest c = let i = reach-padded _ _ _ (rw c.in-Err-NotShortest.field-0-is at c.in-Err-NotShortest.ensures) c.requires in omega (arith, i.0)

@@ -1,19 +1,16 @@
-use Prim.Native.Nat.{ℕ, ◌+◌}
+use Prim.Native.Nat.{ℕ, ◌-◌}
 use mathlib.Core.Path.{◌≡◌}
 use mathlib.Core.List.{List, []}
 use lib.ListN.{length}
+use Rattle.listings.specs.Inner.Listing.{listing_of}
 use Rattle.menders.specs.Listed.{listed}
 use Rattle.menders.specs.Inner.Within.{Within}
-use Rattle.listings.specs.Inner.Listing.{listing_of}
 use Rattle.menders.proofs.take_list.Given as goal
 
-abbrev pub invariant-loop-left : goal.invariant-loop-left
-invariant-loop-left l =
+abbrev pub invariant-loop : goal.invariant-loop
+invariant-loop l =
     (given : List ℕ)
-    × (l.list ≡ listing_of l.list.padded given)
-    × (length given + l.left ≡ l.count)
-    × (listed l.count l.n l.bytes (record { at = l.initial.at; padded = l.initial.list.padded }) [] ≡ listed l.left l.n l.bytes (record { at = l.at; padded = l.list.padded }) given)
-    × Within l.bytes (record { at = l.at; padded = l.list.padded })
-
-abbrev pub decreases-loop-left : goal.decreases-loop-left
-decreases-loop-left l = l.left
+    × (l.list ≡ listing_of l.spot.padded given)
+    × (length given ≡ l.counter)
+    × (listed l.count l.n l.bytes l.fn.from [] ≡ listed (l.count - l.counter) l.n l.bytes l.spot given)
+    × Within l.bytes l.spot

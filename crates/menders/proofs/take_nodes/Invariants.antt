@@ -7,17 +7,13 @@ use Rattle.menders.specs.Draft.{nodes_taken}
 use Rattle.menders.specs.Inner.Within.{Within}
 use Rattle.menders.proofs.take_nodes.Given as goal
 
-abbrev pub invariant-loop-i : goal.invariant-loop-i
-invariant-loop-i l =
-    (nodes_taken l.n 0 l.initial.table 0 0 l.bytes l.initial.spot ≡ nodes_taken (l.n - l.i) l.i l.table l.reordered l.dropped l.bytes l.spot)
+abbrev pub invariant-loop-v : goal.invariant-loop-v
+invariant-loop-v l =
+    (nodes_taken l.head.count 0 l.head 0 0 l.bytes l.fn.from ≡ nodes_taken (l.head.count - l.v) l.v l.table l.counts.reordered l.counts.dropped l.bytes l.spot)
     × (l.least ≡ least_execution l.table.edition)
-    × (l.table.count ≡ l.n)
+    × (l.table.count ≡ l.head.count)
     × Within l.bytes l.spot
     × (length l.table.execution ≡ count_max)
     × (length l.table.parents ≡ count_max)
-    × (l.i ≤ l.n)
-    × (l.reordered ≤ l.i)
-    × (l.dropped ≤ given_max * l.i)
-
-abbrev pub decreases-loop-i : goal.decreases-loop-i
-decreases-loop-i l = l.n - l.i
+    × (l.counts.reordered ≤ l.v)
+    × (l.counts.dropped ≤ given_max * l.v)
