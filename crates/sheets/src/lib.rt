@@ -17,7 +17,7 @@ ghost use Rattle.sheets.specs.Inner.Printable.{Printable, SheetRoom};
 
 pub use lines::Head;
 use lines::Part;
-use refusals::{Answer, Outcome, Refusal};
+use refusals::Refusal;
 use tables::TaskTable;
 use texts::Page;
 
@@ -65,23 +65,24 @@ pub fn put_refusal(page: &mut Page, refusal: Refusal)
 }
 
 // Writes the sheet of a table that was read, without a cost.
-pub fn put_table(page: &mut Page, table: TaskTable)
+pub fn put_table(page: &mut Page, table: &TaskTable)
     requires room { SheetRoom page.old }
-    requires plannable { Plannable (costed table sheet_cost) }
-    ensures { Puts page.old (on_table refused_line table_sheet (costed table sheet_cost)) page.new }
+    requires plannable { Plannable (costed table.now sheet_cost) }
+    ensures { Puts page.old (on_table refused_line table_sheet (costed table.now sheet_cost)) page.new }
 {
     let mut words = [0u64; plans::WORDS_MAX];
-    let planning = plans::plan_table(&mut words, table, 0, Answer::accepted(0));
-    if planning.answer.refusal != 0 {
-        return put_refusal(page, Refusal::told_by(planning.answer));
+    match plans::plan_table(&mut words, table, 0, Ok(())) {
+        Ok(planning) => {
+            let head = Head {
+                id: table.id,
+                period: table.period,
+                work: planning.work,
+                path: planning.path,
+            };
+            put_sheet(page, head, &words);
+        }
+        Err(refusal) => put_refusal(page, refusal),
     }
-    let head = Head {
-        id: table.id,
-        period: table.period,
-        work: planning.work,
-        path: planning.path,
-    };
-    put_sheet(page, head, &words);
 }
 
 // Writes the sheet of a record.
@@ -89,10 +90,9 @@ fn put_record(page: &mut Page, bytes: &[u8])
     requires { SheetRoom page.old }
     ensures { Puts page.old (sheet_of bytes.now) page.new }
 {
-    let reading = records::read_record(bytes);
-    match reading.outcome {
-        Outcome::Accepted => put_table(page, reading.table),
-        Outcome::Refused(refusal) => put_refusal(page, refusal),
+    match records::read_table(bytes) {
+        Ok(table) => put_table(page, &table),
+        Err(refusal) => put_refusal(page, refusal),
     }
 }
 
