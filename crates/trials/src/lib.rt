@@ -3,59 +3,66 @@
 
 ghost use Rattle.std.specs.Prelude.{◌≡◌};
 ghost use Rattle.rules.specs.Rules.{first_broken};
-ghost use Rattle.rules.specs.Inner.Own.{held_by, RulesIn, SharedIn};
-ghost use Rattle.trials.specs.Inner.Later.{later_broken};
+ghost use Rattle.rules.specs.Inner.Own.{held_by, RulesIn};
+ghost use Rattle.trials.specs.Told.{number_of, told};
 
-// The first broken rule from the fourth on, where those before hold.
-fn later_broken<'a>(
-    own: &[u64],
-    plan: &[u64],
-    parents: &'a [u64; 64],
-    executions: &'a [u64; 64],
-    period: u64,
-    work: u64,
-) -> u64
-    requires { SharedIn own.now plan.now parents.now executions.now period work }
-    ensures { result ≡ later_broken (held_by own.now parents.now executions.now period work) plan.now }
-{
-    if !rules::summed(own, plan) {
-        return 4;
-    }
-    if !rules::followed(own, plan, parents) {
-        return 5;
-    }
-    if !rules::halved(own, plan, executions) {
-        return 6;
-    }
-    if !rules::thinned(plan, period, work) {
-        return 7;
-    }
-    if !rules::rounded(own, plan, executions) {
-        return 8;
-    }
-    0
+// The rules, each by its number.
+#[derive(Clone, Copy, Debug, PartialEq, Eq)]
+pub enum Rule {
+    OverFits = 1,
+    SameCut = 2,
+    SharedOut = 3,
+    Summed = 4,
+    Followed = 5,
+    Halved = 6,
+    Thinned = 7,
+    Rounded = 8,
 }
 
-// The number of the first broken rule, from 1; 0 where the plan keeps all eight. A rule is tried only where those before it hold: they bound its sums.
-pub fn first_broken<'a>(
+impl Rule {
+    pub fn number(self) -> u64
+        ensures { result ≡ number_of self }
+    {
+        self as u64
+    }
+}
+
+// The first broken rule. A rule is tried only where those before it hold: they bound its sums.
+#[tactic(auto, unfolding(rules::specs::Rules::first_broken, plain::specs::Tests::first_failed))]
+pub fn first_broken(
     own: &[u64],
     plan: &[u64],
-    parents: &'a [u64; 64],
-    executions: &'a [u64; 64],
+    parents: &[u64; 64],
+    executions: &[u64; 64],
     period: u64,
     work: u64,
-) -> u64
+) -> Option<Rule>
     requires { RulesIn own.now plan.now parents.now executions.now period work }
-    ensures { result ≡ first_broken (held_by own.now parents.now executions.now period work) plan.now }
+    ensures { told result ≡ first_broken (held_by own.now parents.now executions.now period work) plan.now }
 {
     if !rules::over_fits(plan) {
-        return 1;
+        return Some(Rule::OverFits);
     }
     if !rules::same_cut(own, plan) {
-        return 2;
+        return Some(Rule::SameCut);
     }
     if !rules::shared_out(plan, period) {
-        return 3;
+        return Some(Rule::SharedOut);
     }
-    later_broken(own, plan, parents, executions, period, work)
+    if !rules::summed(own, plan) {
+        return Some(Rule::Summed);
+    }
+    if !rules::followed(own, plan, parents) {
+        return Some(Rule::Followed);
+    }
+    if !rules::halved(own, plan, executions) {
+        return Some(Rule::Halved);
+    }
+    if !rules::thinned(plan, period, work) {
+        return Some(Rule::Thinned);
+    }
+    if !rules::rounded(own, plan, executions) {
+        return Some(Rule::Rounded);
+    }
+    None
 }
