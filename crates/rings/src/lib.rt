@@ -22,9 +22,9 @@ fn goes_round(parents: &[u64; 64], set: u64, r: usize, n: usize) -> bool
         if sets::is_member(left, r) {
             return true;
         }
-        let p = u64::trailing_zeros(left) as usize;
+        let p = left.trailing_zeros() as usize;
         taken = sets::with_member(taken, p);
-        met = met | (parents[p] & set);
+        met |= parents[p] & set;
         left = met & !taken;
     }
     false
@@ -35,13 +35,10 @@ fn named_of(parents: &[u64; 64], all: u64, n: usize) -> usize
     requires { (n ≤ 64) × Tidy parents.now n × (all ≡ set_of n (λ v. 1)) × (loops parents.now n ≡ true) }
     ensures { result ≡ named parents.now n }
 {
-    let mut untried = n;
-    while untried > 0 {
-        let v = n - untried;
+    for v in 0..n {
         if goes_round(parents, all, v, n) {
             return v;
         }
-        untried -= 1;
     }
     n
 }
@@ -52,13 +49,11 @@ fn ring_of(parents: &[u64; 64], all: u64, node: usize, n: usize) -> u64
     ensures { result ≡ ring parents.now n node }
 {
     let mut set = all;
-    let mut k: usize = 0;
-    while k < n {
+    for k in 0..n {
         let less = sets::without_member(set, k);
         if goes_round(parents, less, node, n) {
             set = less;
         }
-        k += 1;
     }
     set
 }

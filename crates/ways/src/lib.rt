@@ -18,16 +18,9 @@ pub fn weigh(weights: &[u64; 64], n: usize) -> Weighed
     requires { (n ≤ 64) × ((v : ℕ) → at weights.now v ≤ weight_max) }
     ensures { (result.work ≡ work_of weights.now n) × (result.longest ≡ longest_of weights.now n) }
 {
-    let mut work: u64 = 0;
-    let mut longest: u64 = 0;
-    let mut v: usize = 0;
-    while v < n {
-        let weight = weights[v];
-        work += weight;
-        if longest < weight {
-            longest = weight;
-        }
-        v += 1;
+    let weights = &weights[..n];
+    Weighed {
+        work: weights.iter().sum(),
+        longest: weights.iter().copied().max().unwrap_or(0),
     }
-    Weighed { work, longest }
 }

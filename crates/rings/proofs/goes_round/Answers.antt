@@ -1,7 +1,6 @@
 -- `rings::goes_round` meets its contract: at every turn what was met is reached, and each node that was taken up has its parents among what was met.
 use mathlib.Core.Path.{◌≡◌, sym, ◌∙◌}
 use Prim.Native.Nat.{◌-◌, ◌^◌}
-use native.Mathlib.Omega.{arith}
 use lib.Bits.{bit_and, bit_or}
 use lib.Count.{count_trailing_zeros}
 use Rattle.sets.proofs.Bits.{with-or, has_in, has-out, not-mem}
@@ -49,18 +48,6 @@ pub returns : goal.returns
 returns c =
     let a = c.args in
     sym (round-false (inside-tidy a.parents.now a.n a.set) (taking-no c.loop-left.invariant c.loop-left-test.false))
-
-pub overflow_cast-p : goal.overflow_cast-p
-overflow_cast-p c = omega (arith, (low (goal.at.overflow_cast-p c).Else-is_member).lt)
-
-pub with_member-taken-requires : goal.with_member-taken-requires
-with_member-taken-requires c = (low (goal.at.with_member-taken-requires c).Else-is_member).lt
-
-pub offset_bounds-parents-p : goal.offset_bounds-parents-p
-offset_bounds-parents-p c = omega (arith, (low (goal.at.offset_bounds-parents-p c).Else-is_member).lt)
-
-pub bounds-parents-p : goal.bounds-parents-p
-bounds-parents-p c = (low (goal.at.bounds-parents-p c).Else-is_member).lt
 
 pub loop-left-smaller : goal.loop-left-smaller
 loop-left-smaller c = rw (put (goal.at.loop-left-smaller c).After-with_member-taken) (taking-less (next (goal.at.loop-left-smaller c).Else-is_member))
