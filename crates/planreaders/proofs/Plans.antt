@@ -15,28 +15,27 @@ use Rattle.refusals.specs.Numbers.{bytes_follow, few_words}
 use Rattle.tables.specs.Limits.{count_max}
 use Rattle.numbers.specs.Number.{plan_more}
 use Rattle.numbers.proofs.Cases.{clash}
-use Rattle.records.specs.declared.Step.{Step}
-use Rattle.records.specs.declared.Step.TheVariants.{Read, Refused}
-use Rattle.records.specs.declared.Two.{Two}
-use Rattle.records.specs.Inner.Two.{two_of}
+use Rattle.std.specs.Prelude.{Result, Ok, Err}
+use Rattle.records.specs.Step.{Step, read}
 use Rattle.records.specs.Ranged.{whole_in}
 use Rattle.records.proofs.Cases.{then-read, then-refused}
 use Rattle.plans.specs.Words.{words_max}
 use Rattle.planreaders.specs.Plan.{Several, list_at, words_of, PlanRead, on_plan, on_several, nothing_after, plan_of}
 use Rattle.planreaders.specs.Reading.{filled_with, unread, filled, read_plan_call}
-use Rattle.planreaders.specs.Inner.Listed.{list_step}
-use Rattle.planreaders.proofs.Lists.{limit, Small, small-both, value-inside, list_read, list-refused, Listed, listed}
+use Rattle.planreaders.specs.declared.PlanRecord.{PlanRecord}
+use Rattle.planreaders.specs.Inner.Listed.{told}
+use Rattle.planreaders.proofs.Lists.{limit, Small, small-both, value-inside, Listed, listed}
 
 -- the id and Q, and the places after them
 pub record Head (bytes : List ℕ) (id over next : ℕ) : Type 0 where
   pub place : ℕ
-  pub first : whole_in plan_more bytes 0 ≡ Read id place
-  pub second : whole_in plan_more bytes place ≡ Read over next
+  pub first : whole_in plan_more bytes 0 ≡ read id place
+  pub second : whole_in plan_more bytes place ≡ read over next
   pub id-small : id < limit
   pub over-small : over < limit
   pub inside : next ≤ length bytes
 
-head_of : (bytes : List ℕ) {id place over next : ℕ} → whole_in plan_more bytes 0 ≡ Read id place → whole_in plan_more bytes place ≡ Read over next → Head bytes id over next
+pub head_of : (bytes : List ℕ) {id place over next : ℕ} → whole_in plan_more bytes 0 ≡ read id place → whole_in plan_more bytes place ≡ read over next → Head bytes id over next
 head_of bytes {id} {place} {over} {next} e d =
     let i = value-inside bytes 0 id place e (omega arith) in
     let j = value-inside bytes place over next d i.1 in
@@ -50,7 +49,7 @@ pub record Both (bytes : List ℕ) (place : ℕ) (segments nodes : List ℕ) (en
   pub one : Listed bytes segments next
   pub two : Listed bytes nodes end
 
-both_of : (bytes : List ℕ) (place : ℕ) {segments nodes : List ℕ} {next end : ℕ} → place ≤ length bytes →
+pub both_of : (bytes : List ℕ) (place : ℕ) {segments nodes : List ℕ} {next end : ℕ} → place ≤ length bytes →
     list_at bytes place ≡ Several.several segments next → list_at bytes next ≡ Several.several nodes end → Both bytes place segments nodes end
 both_of bytes place {next = next} h e d =
     let l = listed bytes place e h in
@@ -79,64 +78,48 @@ module _ {bytes : List ℕ} {id over next : ℕ} {segments nodes : List ℕ} {en
   pub plan-read : length bytes ≤ end → plan_of bytes ≡ PlanRead.read id (words_of over segments nodes)
   plan-read l = plan_after ∙ simp (le-ltb _ _ l)
 
--- its refusals before that
-pub head-out : (bytes : List ℕ) {found : Two} {r : Refusal} → found ≡ two_of (whole_in plan_more bytes 0) (whole_in plan_more bytes) → found.step ≡ Refused r → plan_of bytes ≡ PlanRead.refused r
-unfolding plan_of
-head-out bytes {found} {r} e d = by (whole_in plan_more bytes 0) refl (ap (λ (x : Two). x.step) (sym e) ∙ d)
-  where
-    by : (s : Step) → whole_in plan_more bytes 0 ≡ s → (two_of s (whole_in plan_more bytes)).step ≡ Refused r → plan_of bytes ≡ PlanRead.refused r
-    by (Read v place) q z = then-read _ _ _ _ _ q ∙ then-refused _ _ _ _ z
-    by (Refused t) q z = then-refused _ _ _ _ (q ∙ z)
+-- its refusals before that: at the id, at Q, in the segments, in the nodes
+module _ (bytes : List ℕ) {r : Refusal} where
+  pub id-out : whole_in plan_more bytes 0 ≡ Err r → plan_of bytes ≡ PlanRead.refused r
+  unfolding plan_of
+  id-out e = then-refused _ _ _ _ e
 
--- what the head's reader tells
-pub head_read : (bytes : List ℕ) {found : Two} {over next : ℕ} → found ≡ two_of (whole_in plan_more bytes 0) (whole_in plan_more bytes) → found.step ≡ Read over next → Head bytes found.value over next
-head_read bytes {found} {over} {next} e d = by (whole_in plan_more bytes 0) refl e
-  where
-    by : (s : Step) → whole_in plan_more bytes 0 ≡ s → found ≡ two_of s (whole_in plan_more bytes) → Head bytes found.value over next
-    by (Read v place) q z = head_of bytes (q ∙ ap (λ (x : ℕ). Read x place) (ap (λ (x : Two). x.value) (sym z))) (ap (λ (x : Two). x.step) (sym z) ∙ d)
-    by (Refused t) q z = clash (let y : Refused t ≡ Read over next = ap (λ (x : Two). x.step) (sym z) ∙ d in cc)
+  pub over-out : {id place : ℕ} → whole_in plan_more bytes 0 ≡ read id place → whole_in plan_more bytes place ≡ Err r → plan_of bytes ≡ PlanRead.refused r
+  unfolding plan_of
+  over-out e d = then-read _ _ _ _ _ e ∙ then-refused _ _ _ _ d
 
--- what the reader of both lists tells
-module _ (bytes : List ℕ) (place : ℕ) {found : Two} (e : found ≡ two_of (list_step (list_at bytes place)) (λ next. list_step (list_at bytes next))) where
-  pub lists-out : {id over : ℕ} {r : Refusal} → Head bytes id over place → found.step ≡ Refused r → plan_of bytes ≡ PlanRead.refused r
-  unfolding plan_from
-  lists-out {id} {over} {r} h d = by (list_at bytes place) refl (ap (λ (x : Two). x.step) (sym e) ∙ d)
-    where
-      by : (l : Several) → list_at bytes place ≡ l → (two_of (list_step l) (λ next. list_step (list_at bytes next))).step ≡ Refused r → plan_of bytes ≡ PlanRead.refused r
-      by (Several.several segments next) q z = plan-from h ∙ rw (q, list-refused (list_at bytes next) z)
-      by (Several.refused t) q z = plan-from h ∙ rw (q ∙ list-refused (Several.refused t) z)
+  module _ {id over place : ℕ} (h : Head bytes id over place) where
+    pub segments-out : list_at bytes place ≡ Several.refused r → plan_of bytes ≡ PlanRead.refused r
+    unfolding plan_from
+    segments-out e = plan-from h ∙ rw e
 
-  pub lists-read : {n end : ℕ} → place ≤ length bytes → found.step ≡ Read n end →
-      (segments : List ℕ) × (nodes : List ℕ) × Both bytes place segments nodes end × (at segments 0 ≡ found.value) × (at nodes 0 ≡ n)
-  lists-read {n} {end} h d = by (list_at bytes place) refl e
-    where
-      by : (l : Several) → list_at bytes place ≡ l → found ≡ two_of (list_step l) (λ next. list_step (list_at bytes next)) →
-          (segments : List ℕ) × (nodes : List ℕ) × Both bytes place segments nodes end × (at segments 0 ≡ found.value) × (at nodes 0 ≡ n)
-      by (Several.several segments next) q z =
-          let r = list_read (list_at bytes next) (ap (λ (x : Two). x.step) (sym z) ∙ d) in
-          (segments, r.0, both_of bytes place h q r.1, ap (λ (x : Two). x.value) (sym z), r.2)
-      by (Several.refused t) q z = clash (let y : Refused t ≡ Read n end = ap (λ (x : Two). x.step) (sym z) ∙ d in cc)
+    pub nodes-out : {segments : List ℕ} {next : ℕ} → list_at bytes place ≡ Several.several segments next → list_at bytes next ≡ Several.refused r → plan_of bytes ≡ PlanRead.refused r
+    unfolding plan_from
+    nodes-out e d = plan-from h ∙ rw (e, d)
 
 -- what the reader of the whole promises: what it tells; and where the record is read, the plan at the front of the words
-abbrev Told : PlanRead → Step → (before after : List ℕ) → Type 0
-Told p r before after = (r ≡ on_plan Refused (λ id words. Read id (length words)) p) × ((id : ℕ) (words : List ℕ) → p ≡ PlanRead.read id words → after ≡ filled_with words before)
+abbrev Told : PlanRead → Result PlanRecord Refusal → (before after : List ℕ) → Type 0
+Told p r before after = (r ≡ told p) × ((id : ℕ) (words : List ℕ) → p ≡ PlanRead.read id words → after ≡ filled_with words before)
 
-pub told-refused : {p : PlanRead} {e : Refusal} {r : Step} {before after : List ℕ} → p ≡ PlanRead.refused e → r ≡ Refused e → Told p r before after
-told-refused d q = (q ∙ sym (ap (on_plan Refused (λ id words. Read id (length words))) d), λ id words h. clash (let z = sym d ∙ h in cc))
+pub told-refused : {p : PlanRead} {e : Refusal} {before after : List ℕ} → p ≡ PlanRead.refused e → Told p (Err e) before after
+told-refused d = (sym (ap told d), λ id words h. clash (let z = sym d ∙ h in cc))
 
-pub told-read : {p : PlanRead} {id : ℕ} {words : List ℕ} {r : Step} {before after : List ℕ} → p ≡ PlanRead.read id words → r ≡ Read id (length words) →
-    after ≡ filled_with words before → Told p r before after
-told-read {words = words} {before = before} d q s =
-    (q ∙ sym (ap (on_plan Refused (λ id words. Read id (length words))) d), λ id others h. let z = sym d ∙ h in let e : words ≡ others = cc in s ∙ ap (λ (x : List ℕ). filled_with x before) e)
+pub told-read : {p : PlanRead} {id : ℕ} {words : List ℕ} {count : ℕ} {before after : List ℕ} → p ≡ PlanRead.read id words → length words ≡ count →
+    after ≡ filled_with words before → Told p (Ok (record { id = id; words = count })) before after
+told-read {id = id} {words} {before = before} d q s = (
+  ap (λ (x : ℕ). Ok (record { id = id; words = x })) (sym q) ∙ sym (ap told d),
+  λ id others h. let z = sym d ∙ h in let e : words ≡ others = cc in s ∙ ap (λ (x : List ℕ). filled_with x before) e,
+)
 
 -- the other way round
-pub step-refused : (p : PlanRead) {r : Refusal} → on_plan Refused (λ id words. Read id (length words)) p ≡ Refused r → p ≡ PlanRead.refused r
-step-refused (PlanRead.read id words) e = clash cc
-step-refused (PlanRead.refused t) {r = r} e = let q : t ≡ r = cc in ap PlanRead.refused q
+pub refused-told : (p : PlanRead) {r : Refusal} → Err r ≡ told p → p ≡ PlanRead.refused r
+refused-told (PlanRead.read id words) e = clash cc
+refused-told (PlanRead.refused t) {r = r} e = let q : t ≡ r = cc in ap PlanRead.refused q
 
-pub step-read : (p : PlanRead) {v count : ℕ} → on_plan Refused (λ id words. Read id (length words)) p ≡ Read v count → (words : List ℕ) × (p ≡ PlanRead.read v words) × (length words ≡ count)
-step-read (PlanRead.read id words) {v = v} e = let q : id ≡ v = cc in (words, ap (λ (x : ℕ). PlanRead.read x words) q, cc)
-step-read (PlanRead.refused t) e = clash cc
+pub read-told : (p : PlanRead) {r : PlanRecord} → Ok r ≡ told p → (words : List ℕ) × (p ≡ PlanRead.read r.id words) × (length words ≡ r.words)
+read-told (PlanRead.read id words) {r = r} e =
+    let q : record { id = id; words = length words } ≡ r = cc in (words, ap (λ (x : PlanRecord). PlanRead.read x.id words) q, ap (λ (x : PlanRecord). x.words) q)
+read-told (PlanRead.refused t) e = clash cc
 
 -- a plan record that was read, whole
 pub record Planned (bytes : List ℕ) (id : ℕ) (words : List ℕ) : Type 0 where
@@ -149,14 +132,8 @@ pub record Planned (bytes : List ℕ) (id : ℕ) (words : List ℕ) : Type 0 whe
   pub is : words ≡ words_of over segments nodes
 
 pub planned : (bytes : List ℕ) {id : ℕ} {words : List ℕ} → plan_of bytes ≡ PlanRead.read id words → Planned bytes id words
-planned bytes {id} {words} e = from-head head.step refl
+planned bytes {id} {words} e = from-id (whole_in plan_more bytes 0) refl
   where
-    head : Two
-    head = two_of (whole_in plan_more bytes 0) (whole_in plan_more bytes)
-
-    lists : ℕ → Two
-    lists place = two_of (list_step (list_at bytes place)) (λ next. list_step (list_at bytes next))
-
     refused : {r : Refusal} → plan_of bytes ≡ PlanRead.refused r → Planned bytes id words
     refused q = clash (let z = sym q ∙ e in cc)
 
@@ -169,15 +146,22 @@ planned bytes {id} {words} e = from-head head.step refl
         let w : words_of over segments nodes ≡ words = cc in
         record { over = over; next = next; segments = segments; nodes = nodes; head = rw d at h; both = rw q at b; is = sym w }
 
-    from-lists : {v over next : ℕ} → Head bytes v over next → (s : Step) → (lists next).step ≡ s → Planned bytes id words
-    from-lists {next = next} h (Read n end) q =
-        let l = lists-read bytes next refl h.inside q in
-        whole h l.2 (lt-or-ge end (length bytes))
-    from-lists {next = next} h (Refused r) q = refused (lists-out bytes next refl h q)
+    from-nodes : {v over place next : ℕ} {segments : List ℕ} → Head bytes v over place → list_at bytes place ≡ Several.several segments next →
+        (l : Several) → list_at bytes next ≡ l → Planned bytes id words
+    from-nodes {place = place} h a (Several.several nodes end) q = whole h (both_of bytes place h.inside a q) (lt-or-ge end (length bytes))
+    from-nodes h a (Several.refused r) q = refused (nodes-out bytes h a q)
 
-    from-head : (s : Step) → head.step ≡ s → Planned bytes id words
-    from-head (Read over next) q = let h = head_read bytes refl q in from-lists h (lists next).step refl
-    from-head (Refused r) q = refused (head-out bytes refl q)
+    from-segments : {v over place : ℕ} → Head bytes v over place → (l : Several) → list_at bytes place ≡ l → Planned bytes id words
+    from-segments h (Several.several segments next) q = from-nodes h q (list_at bytes next) refl
+    from-segments h (Several.refused r) q = refused (segments-out bytes h q)
+
+    from-over : {v place : ℕ} → whole_in plan_more bytes 0 ≡ read v place → (s : Step) → whole_in plan_more bytes place ≡ s → Planned bytes id words
+    from-over p (Ok r) q = from-segments (head_of bytes p q) (list_at bytes r.next) refl
+    from-over p (Err r) q = refused (over-out bytes p q)
+
+    from-id : (s : Step) → whole_in plan_more bytes 0 ≡ s → Planned bytes id words
+    from-id (Ok r) q = from-over q (whole_in plan_more bytes r.next) refl
+    from-id (Err r) q = refused (id-out bytes q)
 
 -- how many words it has
 pub words_size : {bytes : List ℕ} {place end : ℕ} (over : ℕ) {segments nodes : List ℕ} → Both bytes place segments nodes end →

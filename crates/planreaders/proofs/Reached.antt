@@ -12,7 +12,7 @@ use borrow.Author.Tests.{lt-ltb, le-ltb}
 use Rattle.plain.specs.At.{at}
 use Rattle.plain.proofs.Lists.{lt-or-ge}
 use Rattle.refusals.specs.declared.Refusal.{Refusal}
-use Rattle.refusals.specs.declared.Outcome.TheVariants as outcome
+use Rattle.std.specs.Prelude.{Ok, Err}
 use Rattle.refusals.specs.Refusal.{refusal}
 use Rattle.refusals.specs.Numbers.{bad_plan}
 use Rattle.tables.specs.Limits.{count_max}
@@ -20,9 +20,7 @@ use Rattle.numbers.specs.Number.{plan_more}
 use Rattle.numbers.specs.Form.{Whole}
 use Rattle.numbers.proofs.Forms as forms
 use Rattle.numbers.proofs.Cases.{clash}
-use Rattle.records.specs.declared.Step.{Step}
-use Rattle.records.specs.declared.Step.TheVariants.{Read, Refused}
-use Rattle.records.specs.Step.{and_then}
+use Rattle.records.specs.Step.{Step, and_then}
 use Rattle.records.specs.Ranged.{whole_in, ranged_in}
 use Rattle.records.proofs.Cases.{then-read, then-refused, ranged-refused, ranged-out, ranged-in}
 use Rattle.records.proofs.Expected.{whole-read, ends_read, long-read, padded-read, ByRule, by-rule}
@@ -35,8 +33,8 @@ use Rattle.planreaders.specs.Met.Refuses.{ends, long, padded, outside, follow}
 on_then : (step : Step) (then : ℕ → ℕ → Several) (more : List ℕ → ℕ → PlanRead) →
     on_several PlanRead.refused (and_then Several.refused step then) more ≡ and_then PlanRead.refused step (λ v next. on_several PlanRead.refused (then v next) more)
 unfolding and_then
-on_then (Read v next) then more = refl
-on_then (Refused r) then more = refl
+on_then (Ok r) then more = refl
+on_then (Err r) then more = refl
 
 -- what reading still does from a place on: after the nodes, after the segments, after Q, after the id
 abbrev at_end : (bytes : List ℕ) (id over : ℕ) (segments nodes : List ℕ) (end : ℕ) → PlanRead
@@ -113,7 +111,7 @@ module _ (bytes : List ℕ) where
       by (plain c d more e go) = go v (place + n) (e ∙ then-read _ _ _ _ _ (whole-read plan_more bytes place w))
 
   -- so what is refused by a rule is refused by that number at that place, and what is spelt is read
-  stops : {place : ℕ} {values : List ℕ} {r : Refusal} → Met bytes place values → (Complete values → ⊥) → whole_in plan_more bytes place ≡ Refused r → plan_of bytes ≡ PlanRead.refused r
+  stops : {place : ℕ} {values : List ℕ} {r : Refusal} → Met bytes place values → (Complete values → ⊥) → whole_in plan_more bytes place ≡ Err r → plan_of bytes ≡ PlanRead.refused r
   stops {place} {values} {r} m some q = by (turn (reached m))
     where
       by : Turn bytes place values → plan_of bytes ≡ PlanRead.refused r
@@ -197,7 +195,7 @@ module _ (bytes : List ℕ) where
   refused-rule r q = by comes
     where
       by : Comes → ByRule (Refuses bytes) r
-      by (refuses {k = k} {place = place} f) = let z = sym (rule-refused f) ∙ q in let d : refusal k place ≡ r = cc in by-rule (Refuses bytes) f (ap outcome.Refused d)
+      by (refuses {k = k} {place = place} f) = let z = sym (rule-refused f) ∙ q in let d : refusal k place ≡ r = cc in by-rule (Refuses bytes) f (ap Err d)
       by (spells f) = clash (let z = sym (spelt-read f) ∙ q in cc)
 
   pub read-spelt : {id : ℕ} {words : List ℕ} → plan_of bytes ≡ PlanRead.read id words → (values : List ℕ) × Spelt bytes values × (at values 0 ≡ id) × (words_in values ≡ words)

@@ -1,11 +1,17 @@
--- How a list's reader tells what it read.
+-- How the readers tell what they read.
+use Rattle.std.specs.Prelude.{length, Result, Ok, Err}
 use Rattle.plain.specs.At.{at}
-use Rattle.records.specs.declared.Step.{Step}
-use Rattle.records.specs.declared.Step.TheVariants as step
-use Rattle.planreaders.specs.Plan.{Several}
+use Rattle.refusals.specs.declared.Refusal.{Refusal}
+use Rattle.records.specs.Step.{Step, read}
+use Rattle.planreaders.specs.declared.PlanRecord.{PlanRecord}
+use Rattle.planreaders.specs.Plan.{Several, PlanRead, on_plan}
 use Rattle.planreaders.specs.Plan.Several.{several, refused}
 
--- its count, and the place after it
+-- a list: its count, and the place after it
 abbrev pub list_step : Several → Step
-list_step (several values next) = step.Read (at values 0) next
-list_step (refused r) = step.Refused r
+list_step (several values next) = read (at values 0) next
+list_step (refused r) = Err r
+
+-- a plan record: its id, and how many words the plan has
+abbrev pub told : PlanRead → Result PlanRecord Refusal
+told p = on_plan Err (λ id words. Ok (record { id = id; words = length words })) p
