@@ -4,3 +4,4 @@ pub mod Parents
 pub mod Nodes
 pub mod Reading
 pub mod Expected
+pub mod Inner

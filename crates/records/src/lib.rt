@@ -5,10 +5,11 @@ ghost use Rattle.std.specs.Prelude.{◌≡◌, ℕ, ◌+◌, ◌≤◌, List, le
 ghost use Rattle.tables.specs.Limits.{count_max};
 ghost use Rattle.refusals.specs.Numbers.{number_of};
 ghost use Rattle.numbers.specs.Number.{worth};
-ghost use Rattle.records.specs.Ranged.{step_of, whole_in, ranged_in, whole, ranged};
+ghost use Rattle.records.specs.Ranged.{step_of, whole_in, ranged_in, ranged};
 ghost use Rattle.records.specs.Parents.{parents, parent_set};
 ghost use Rattle.records.specs.Nodes.{with_table, nothing_follows, nodes};
 ghost use Rattle.records.specs.Reading.{reading_of};
+ghost use Rattle.records.specs.Inner.Reader.{step_to};
 
 use numbers::{Fault, Number};
 use refusals::{Reason, Refusal};
@@ -44,14 +45,6 @@ pub fn step_of(found: Result<Number, Fault>, at: usize, size: usize) -> Result<R
     }
 }
 
-// The number at a place, whole.
-fn read_whole(bytes: &[u8], at: usize) -> Result<Read, Refusal>
-    requires { at ≤ length bytes.now }
-    ensures { result ≡ whole bytes.now at }
-{
-    step_of(numbers::read_number(&bytes[at..]), at, bytes.len())
-}
-
 // The range of a number that was read whole at a place, whatever the input and however long its numbers may be.
 pub fn in_range(
     step: Result<Read, Refusal>,
@@ -69,49 +62,6 @@ pub fn in_range(
     Ok(read)
 }
 
-// The number at a place, and only then its range.
-fn read_ranged(
-    bytes: &[u8],
-    at: usize,
-    broken: Reason,
-    low: u64,
-    high: u64,
-) -> Result<Read, Refusal>
-    requires { at ≤ length bytes.now }
-    ensures { result ≡ ranged (number_of broken) low high bytes.now at }
-{
-    in_range(read_whole(bytes, at), at, broken.number(), low, high)
-}
-
-// As many parent numbers as count says, each below n and above the one before, as a set.
-fn read_parents(bytes: &[u8], from: usize, count: u64, n: u64) -> Result<Read, Refusal>
-    requires { (1 ≤ n) × (n ≤ count_max) × (count ≤ n) × (from ≤ length bytes.now) }
-    ensures { result ≡ parents count n 0 0 bytes.now from }
-{
-    let mut low = 0;
-    let mut set: u64 = 0;
-    let mut at = from;
-    for _k in 0..count {
-        let parent = read_ranged(bytes, at, Reason::BadParent, low, n - 1)?;
-        set += 1 << parent.value;
-        low = parent.value + 1;
-        at = parent.next;
-    }
-    Ok(Read {
-        value: set,
-        next: at,
-    })
-}
-
-// The parent count at a place, and that many parents.
-fn read_parent_set(bytes: &[u8], at: usize, n: u64) -> Result<Read, Refusal>
-    requires { (1 ≤ n) × (n ≤ count_max) × (at ≤ length bytes.now) }
-    ensures { result ≡ parent_set n bytes.now at }
-{
-    let count = read_ranged(bytes, at, Reason::BadParent, 0, n)?;
-    read_parents(bytes, count.next, count.value, n)
-}
-
 // A whole table, where no byte follows it and its executions are not all zeros.
 #[tactic(auto, unfolding(crate::specs::Nodes::nothing_follows))]
 fn nothing_follows(bytes: &[u8], at: usize, table: TaskTable) -> Result<TaskTable, Refusal>
@@ -127,53 +77,92 @@ fn nothing_follows(bytes: &[u8], at: usize, table: TaskTable) -> Result<TaskTabl
     Ok(table)
 }
 
-// The nodes of a table whose head was read, into it.
-fn read_nodes(bytes: &[u8], from: usize, head: TaskTable) -> Result<TaskTable, Refusal>
-    requires { (1 ≤ head.count) × (head.count ≤ count_max) × (from ≤ length bytes.now) }
-    ensures { with_table result ≡ nodes head.count 0 head bytes.now from }
-{
-    let n = head.count;
-    let least = tables::least_execution(head.edition);
-    let mut table = head;
-    let mut at = from;
-    for i in 0..n {
-        let execution = read_ranged(
-            bytes,
-            at,
-            Reason::BadExecution,
-            least,
-            TaskTable::EXECUTION_MAX,
-        )?;
-        let set = read_parent_set(bytes, execution.next, n as u64)?;
-        table.execution[i] = execution.value;
-        table.parents[i] = set.value;
-        at = set.next;
+// A record, and how far it was read.
+#[derive(Clone, Copy)]
+struct Reader<'a> {
+    bytes: &'a [u8],
+    at: usize,
+    ghost inside: { at ≤ length bytes.now },
+}
+
+impl Reader<'_> {
+    // The next number, whole, and only then its range.
+    fn read_ranged(&mut self, broken: Reason, low: u64, high: u64) -> Result<u64, Refusal>
+        ensures step { step_to result self.new.at ≡ ranged (number_of broken) low high self.old.bytes.now self.old.at }
+        ensures record { self.new.bytes ≡ self.old.bytes }
+    {
+        let at = self.at;
+        let found = numbers::read_number(&self.bytes[at..]);
+        let whole = step_of(found, at, self.bytes.len());
+        let read = in_range(whole, at, broken.number(), low, high)?;
+        self.at = read.next;
+        Ok(read.value)
     }
-    nothing_follows(bytes, at, table)
+
+    // As many parent numbers as count says, each below n and above the one before, as a set.
+    fn read_parents(&mut self, count: u64, n: u64) -> Result<u64, Refusal>
+        requires { (1 ≤ n) × (n ≤ count_max) × (count ≤ n) }
+        ensures step { step_to result self.new.at ≡ parents count n 0 0 self.old.bytes.now self.old.at }
+        ensures record { self.new.bytes ≡ self.old.bytes }
+    {
+        let mut low = 0;
+        let mut set: u64 = 0;
+        for _k in 0..count {
+            let parent = self.read_ranged(Reason::BadParent, low, n - 1)?;
+            set += 1 << parent;
+            low = parent + 1;
+        }
+        Ok(set)
+    }
+
+    // The parent count, and that many parents.
+    fn read_parent_set(&mut self, n: u64) -> Result<u64, Refusal>
+        requires { (1 ≤ n) × (n ≤ count_max) }
+        ensures step { step_to result self.new.at ≡ parent_set n self.old.bytes.now self.old.at }
+        ensures record { self.new.bytes ≡ self.old.bytes }
+    {
+        let count = self.read_ranged(Reason::BadParent, 0, n)?;
+        self.read_parents(count, n)
+    }
+
+    // The nodes of a table whose head was read, into it.
+    fn read_nodes(&mut self, head: TaskTable) -> Result<TaskTable, Refusal>
+        requires { (1 ≤ head.count) × (head.count ≤ count_max) }
+        ensures { with_table result ≡ nodes head.count 0 head self.old.bytes.now self.old.at }
+    {
+        let n = head.count;
+        let least = tables::least_execution(head.edition);
+        let mut table = head;
+        for i in 0..n {
+            let execution = self.read_ranged(
+                Reason::BadExecution,
+                least,
+                TaskTable::EXECUTION_MAX,
+            )?;
+            let set = self.read_parent_set(n as u64)?;
+            table.execution[i] = execution;
+            table.parents[i] = set;
+        }
+        nothing_follows(self.bytes, self.at, table)
+    }
 }
 
 // The table that a record holds, or the refusal of the first rule that it breaks.
 pub fn read_table(bytes: &[u8]) -> Result<TaskTable, Refusal>
     ensures { with_table result ≡ reading_of bytes.now }
 {
-    let edition = read_ranged(bytes, 0, Reason::BadEdition, 1, TaskTable::EDITION_MAX)?;
-    let id = read_ranged(bytes, edition.next, Reason::BadId, 1, TaskTable::ID_MAX)?;
-    let period = read_ranged(bytes, id.next, Reason::BadPeriod, 1, TaskTable::PERIOD_MAX)?;
-    let count = read_ranged(
-        bytes,
-        period.next,
-        Reason::BadCount,
-        1,
-        TaskTable::COUNT_MAX,
-    )?;
-    let head = TaskTable {
-        edition: edition.value,
-        id: id.value,
-        period: period.value,
-        count: count.value as usize,
+    let mut reader = Reader { bytes, at: 0 };
+    let edition = reader.read_ranged(Reason::BadEdition, 1, TaskTable::EDITION_MAX)?;
+    let id = reader.read_ranged(Reason::BadId, 1, TaskTable::ID_MAX)?;
+    let period = reader.read_ranged(Reason::BadPeriod, 1, TaskTable::PERIOD_MAX)?;
+    let count = reader.read_ranged(Reason::BadCount, 1, TaskTable::COUNT_MAX)?;
+    reader.read_nodes(TaskTable {
+        edition,
+        id,
+        period,
+        count: count as usize,
         ..TaskTable::empty()
-    };
-    read_nodes(bytes, count.next, head)
+    })
 }
 
 // The same, with the table of zeros beside a refusal.

@@ -1,66 +1,78 @@
 -- `records::read_table` meets its contract: the head's four numbers are read in the order of `reading_of`, each from the place after the one before, and the nodes are the rest.
-use mathlib.Core.Path.{refl, sym, ap, ◌∙◌}
+use mathlib.Core.Path.{◌≡◌, refl, sym, ap, ◌∙◌}
 use native.Mathlib.Omega.{arith}
-use Rattle.refusals.specs.Numbers.{bad_edition, bad_id, bad_period, bad_count}
+use Rattle.std.specs.Prelude.{Err}
+use Rattle.refusals.specs.Numbers.{bad_id, bad_period, bad_count}
 use Rattle.refusals.proofs.Out.{goes-out}
-use Rattle.tables.specs.Limits.{edition_max, id_max, period_max, count_max}
-use Rattle.numbers.specs.Number.{record_more}
 use Rattle.tables.specs.declared.TaskTable.{TaskTable}
+use Rattle.tables.specs.Limits.{id_max, period_max, count_max}
 use Rattle.records.specs.Nodes.{with_table, nodes}
+use Rattle.records.specs.Ranged.{ranged}
 use Rattle.records.specs.Reading.{reading_of}
+use Rattle.records.specs.Step.{read}
 use Rattle.records.proofs.Cases.{then-read, then-refused}
-use Rattle.records.proofs.Inside.{Passed, passed}
+use Rattle.records.proofs.Inside.{passed}
 use Rattle.records.proofs.read_table.Goals as goal
-use Rattle.records.proofs.read_table.Goals.{In_ok-edition, In_ok-id, In_ok-period, In_ok-count}
+use Rattle.records.proofs.read_table.Goals.{In_ok-edition, In_ok-id, In_ok-period, In_ok-count, In_err-id, In_err-period, In_err-count}
 
-edition : (c : In_ok-edition) → Passed record_more bad_edition 1 edition_max c.args.bytes.now 0 c.in_ok-edition.edition.value c.in_ok-edition.edition.next
-edition c = passed _ _ _ _ _ _ _ _ _ c.in_ok-edition.ensures refl (omega arith)
+-- the reader reads one record all along
+same-1 : (c : In_ok-edition) → c.read_ranged.new.self.bytes ≡ c.args.bytes
+same-1 c = c.in_ok-edition.ensures.record
 
-id : (c : In_ok-id) → Passed record_more bad_id 1 id_max c.args.bytes.now c.in_ok-edition.edition.next c.in_ok-id.id.value c.in_ok-id.id.next
-id c = passed _ _ _ _ _ _ _ _ _ c.in_ok-id.ensures refl (edition (goal.at-In_ok-id c).In_ok-edition).inside
+same-2 : (c : In_ok-id) → c.read_ranged-2.new.self.bytes ≡ c.args.bytes
+same-2 c = c.in_ok-id.ensures.record ∙ same-1 (goal.at-In_ok-id c).In_ok-edition
 
-period : (c : In_ok-period) → Passed record_more bad_period 1 period_max c.args.bytes.now c.in_ok-id.id.next c.in_ok-period.period.value c.in_ok-period.period.next
-period c = passed _ _ _ _ _ _ _ _ _ c.in_ok-period.ensures refl (id (goal.at-In_ok-period c).In_ok-id).inside
+same-3 : (c : In_ok-period) → c.read_ranged-3.new.self.bytes ≡ c.args.bytes
+same-3 c = c.in_ok-period.ensures.record ∙ same-2 (goal.at-In_ok-period c).In_ok-id
 
-count : (c : In_ok-count) → Passed record_more bad_count 1 count_max c.args.bytes.now c.in_ok-period.period.next c.in_ok-count.count.value c.in_ok-count.count.next
-count c = passed _ _ _ _ _ _ _ _ _ c.in_ok-count.ensures refl (period (goal.at-In_ok-count c).In_ok-period).inside
+-- so each number is that of the record at the place after the one before
+id : (c : In_ok-id) → ranged bad_id 1 id_max c.args.bytes.now c.read_ranged.new.self.at ≡ read c.in_ok-id.id c.read_ranged-2.new.self.at
+id c = rw (sym (same-1 (goal.at-In_ok-id c).In_ok-edition)) (sym c.in_ok-id.ensures.step)
+
+period : (c : In_ok-period) → ranged bad_period 1 period_max c.args.bytes.now c.read_ranged-2.new.self.at ≡ read c.in_ok-period.period c.read_ranged-3.new.self.at
+period c = rw (sym (same-2 (goal.at-In_ok-period c).In_ok-id)) (sym c.in_ok-period.ensures.step)
+
+count : (c : In_ok-count) → ranged bad_count 1 count_max c.args.bytes.now c.read_ranged-3.new.self.at ≡ read c.in_ok-count.count c.read_ranged-4.new.self.at
+count c = rw (sym (same-3 (goal.at-In_ok-count c).In_ok-period)) (sym c.in_ok-count.ensures.step)
+
+-- and likewise where it is refused
+no_id : (c : In_err-id) → ranged bad_id 1 id_max c.args.bytes.now c.read_ranged.new.self.at ≡ Err c.in_err-id.field-0.0
+no_id c = rw (sym (same-1 (goal.at-In_err-id c).In_ok-edition)) (sym c.in_err-id.ensures.step)
+
+no_period : (c : In_err-period) → ranged bad_period 1 period_max c.args.bytes.now c.read_ranged-2.new.self.at ≡ Err c.in_err-period.field-0.0
+no_period c = rw (sym (same-2 (goal.at-In_err-period c).In_ok-id)) (sym c.in_err-period.ensures.step)
+
+no_count : (c : In_err-count) → ranged bad_count 1 count_max c.args.bytes.now c.read_ranged-3.new.self.at ≡ Err c.in_err-count.field-0.0
+no_count c = rw (sym (same-3 (goal.at-In_err-count c).In_ok-period)) (sym c.in_err-count.ensures.step)
 
 pub returns-in_err-edition : goal.returns-in_err-edition
 unfolding reading_of
-returns-in_err-edition c = ap with_table (goes-out _ _ c.from_residual.ensures.1) ∙ sym (then-refused _ _ _ _ (sym c.in_err-edition.ensures))
-
-pub read_ranged-requires-2 : goal.read_ranged-requires-2
-read_ranged-requires-2 c = (edition (goal.at.read_ranged-requires-2 c).In_ok-edition).inside
+returns-in_err-edition c = ap with_table (goes-out _ _ c.from_residual.ensures.1) ∙ sym (then-refused _ _ _ _ (sym c.in_err-edition.ensures.step))
 
 pub returns-in_err-id : goal.returns-in_err-id
 unfolding reading_of
 returns-in_err-id c = ap with_table (goes-out _ _ c.from_residual-in_err-id.ensures.1)
-    ∙ sym (then-read _ _ _ _ _ (sym c.in_ok-edition.ensures) ∙ then-refused _ _ _ _ (sym c.in_err-id.ensures))
-
-pub read_ranged-requires-3 : goal.read_ranged-requires-3
-read_ranged-requires-3 c = (id (goal.at.read_ranged-requires-3 c).In_ok-id).inside
+    ∙ sym (then-read _ _ _ _ _ (sym c.in_ok-edition.ensures.step) ∙ then-refused _ _ _ _ (no_id (goal.at.returns-in_err-id c).In_err-id))
 
 pub returns-in_err-period : goal.returns-in_err-period
 unfolding reading_of
 returns-in_err-period c = ap with_table (goes-out _ _ c.from_residual-in_err-period.ensures.1)
-    ∙ sym (then-read _ _ _ _ _ (sym c.in_ok-edition.ensures) ∙ then-read _ _ _ _ _ (sym c.in_ok-id.ensures) ∙ then-refused _ _ _ _ (sym c.in_err-period.ensures))
-
-pub read_ranged-requires-4 : goal.read_ranged-requires-4
-read_ranged-requires-4 c = (period (goal.at.read_ranged-requires-4 c).In_ok-period).inside
+    ∙ sym (then-read _ _ _ _ _ (sym c.in_ok-edition.ensures.step) ∙ then-read _ _ _ _ _ (id (goal.at.returns-in_err-period c).In_ok-id)
+    ∙ then-refused _ _ _ _ (no_period (goal.at.returns-in_err-period c).In_err-period))
 
 pub returns-in_err-count : goal.returns-in_err-count
 unfolding reading_of
 returns-in_err-count c = ap with_table (goes-out _ _ c.from_residual-in_err-count.ensures.1)
-    ∙ sym (then-read _ _ _ _ _ (sym c.in_ok-edition.ensures) ∙ then-read _ _ _ _ _ (sym c.in_ok-id.ensures) ∙ then-read _ _ _ _ _ (sym c.in_ok-period.ensures)
-    ∙ then-refused _ _ _ _ (sym c.in_err-count.ensures))
+    ∙ sym (then-read _ _ _ _ _ (sym c.in_ok-edition.ensures.step) ∙ then-read _ _ _ _ _ (id (goal.at.returns-in_err-count c).In_ok-id)
+    ∙ then-read _ _ _ _ _ (period (goal.at.returns-in_err-count c).In_ok-period) ∙ then-refused _ _ _ _ (no_count (goal.at.returns-in_err-count c).In_err-count))
 
 pub read_nodes-requires : goal.read_nodes-requires
-read_nodes-requires c = let p = count (goal.at.read_nodes-requires c).In_ok-count in omega arith
+read_nodes-requires c = let p = passed _ _ _ _ _ _ _ _ _ c.in_ok-count.ensures.step refl c.read_ranged-3.new.self.inside in omega (arith, p.least, p.most)
 
 pub returns : goal.returns
 unfolding reading_of
-returns c = let n = c.in_ok-count.count in
+returns c = let same = c.in_ok-count.ensures.record ∙ same-3 (goal.at.returns c).In_ok-period in
     c.read_nodes.ensures
-    ∙ ap (λ (zeros : TaskTable). nodes n.value 0 (record { edition = c.in_ok-edition.edition.value; id = c.in_ok-id.id.value; period = c.in_ok-period.period.value; count = n.value; execution = zeros.execution; parents = zeros.parents }) c.args.bytes.now n.next) c.empty.ensures
-    ∙ sym (then-read _ _ _ _ _ (sym c.in_ok-edition.ensures) ∙ then-read _ _ _ _ _ (sym c.in_ok-id.ensures) ∙ then-read _ _ _ _ _ (sym c.in_ok-period.ensures)
-    ∙ then-read _ _ _ _ _ (sym c.in_ok-count.ensures))
+    ∙ ap (λ (zeros : TaskTable). nodes c.in_ok-count.count 0 (record { edition = c.in_ok-edition.edition; id = c.in_ok-id.id; period = c.in_ok-period.period; count = c.in_ok-count.count; execution = zeros.execution; parents = zeros.parents }) c.read_ranged-4.new.self.bytes.now c.read_ranged-4.new.self.at) c.empty.ensures
+    ∙ rw same (sym (then-read _ _ _ _ _ (sym c.in_ok-edition.ensures.step) ∙ then-read _ _ _ _ _ (id (goal.at.returns c).In_ok-id) ∙ then-read _ _ _ _ _ (period (goal.at.returns c).In_ok-period)
+    ∙ then-read _ _ _ _ _ (count (goal.at.returns c).In_ok-count)))
