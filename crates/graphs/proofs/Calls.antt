@@ -5,12 +5,11 @@ use mathlib.Core.Bool.{Bool, true, false}
 use mathlib.Core.List.{List}
 use lib.ListN.{length, take}
 use lib.Dec.{ltb}
+use Rattle.std.specs.Prelude.{Result, Ok, Err, ⊤}
 use borrow.Author.Tests.{ltb-true, ltb-false}
 use Rattle.refusals.specs.declared.Refusal.{Refusal}
 use Rattle.refusals.specs.Numbers.{wrong_length}
 use Rattle.refusals.specs.Refusal.{refusal}
-use Rattle.refusals.specs.declared.Outcome.{Outcome}
-use Rattle.refusals.specs.declared.Outcome.TheVariants.{Accepted, Refused}
 use Rattle.refusals.specs.After.{After}
 use Rattle.records.proofs.Answers.{Filling}
 use Rattle.writers.specs.Record.{record_of}
@@ -23,16 +22,16 @@ use Rattle.graphs.specs.Record.{graph_call}
 use Rattle.graphs.proofs.Filled.{graph-filling, graph-runs}
 
 module _ (text bytes : List ℕ) (id period : ℕ) where
-  pub call-refused : (r : Refusal) → (graph_of text id period).outcome ≡ Refused r → graph_call text bytes id period ≡ unwritten bytes r
+  pub call-refused : (r : Refusal) → (graph_of text id period).outcome ≡ Err r → graph_call text bytes id period ≡ unwritten bytes r
   unfolding graph_call
   call-refused r e = rw e
 
-  call-written : (graph_of text id period).outcome ≡ Accepted → graph_call text bytes id period ≡ writing (graph_of text id period).table bytes
+  call-written : (graph_of text id period).outcome ≡ Ok tt → graph_call text bytes id period ≡ writing (graph_of text id period).table bytes
   unfolding graph_call
   call-written e = rw e
 
   -- as the code writes it
-  module _ (graph : Graph) (e : graph ≡ graph_of text id period) (ok : graph.outcome ≡ Accepted) where
+  module _ (graph : Graph) (e : graph ≡ graph_of text id period) (ok : graph.outcome ≡ Ok tt) where
     pub filling : Filling graph.table.count graph.table
     filling = subst (λ (g : Graph). Filling g.table.count g.table) (sym e) (graph-filling text id period (ap (λ (g : Graph). g.outcome) (sym e) ∙ ok))
 
@@ -46,19 +45,19 @@ module _ (text bytes : List ℕ) (id period : ℕ) where
 
   -- so the call comes to one of these
   pub data Coming : After (List ℕ) → Type 0 where
-    refused : (r : Refusal) → (graph_of text id period).outcome ≡ Refused r → Coming (unwritten bytes r)
-    short : (graph_of text id period).outcome ≡ Accepted → length bytes < length (record_of (graph_of text id period).table) → Coming (unwritten bytes (refusal wrong_length (length bytes)))
-    fits : (graph_of text id period).outcome ≡ Accepted → length (record_of (graph_of text id period).table) ≤ length bytes → Coming (record_put bytes (graph_of text id period).table)
+    refused : (r : Refusal) → (graph_of text id period).outcome ≡ Err r → Coming (unwritten bytes r)
+    short : (graph_of text id period).outcome ≡ Ok tt → length bytes < length (record_of (graph_of text id period).table) → Coming (unwritten bytes (refusal wrong_length (length bytes)))
+    fits : (graph_of text id period).outcome ≡ Ok tt → length (record_of (graph_of text id period).table) ≤ length bytes → Coming (record_put bytes (graph_of text id period).table)
 
   pub coming : Coming (graph_call text bytes id period)
   unfolding writing before_writing
   coming = start (graph_of text id period).outcome refl
     where
-      by : (e : (graph_of text id period).outcome ≡ Accepted) (s : Bool) → ltb (length bytes) (length (record_of (graph_of text id period).table)) ≡ s →
+      by : (e : (graph_of text id period).outcome ≡ Ok tt) (s : Bool) → ltb (length bytes) (length (record_of (graph_of text id period).table)) ≡ s →
           Coming (writing (graph_of text id period).table bytes)
       by e true g = rw (table-ranges (graph_of text id period).table (graph-filling text id period e), graph-runs text id period e, g) (short e (ltb-true _ _ g))
       by e false g = rw (table-ranges (graph_of text id period).table (graph-filling text id period e), graph-runs text id period e, g) (fits e (ltb-false _ _ g))
 
-      start : (o : Outcome) → (graph_of text id period).outcome ≡ o → Coming (graph_call text bytes id period)
-      start (Refused r) e = subst Coming (sym (call-refused r e)) (refused r e)
-      start Accepted e = subst Coming (sym (call-written e)) (by e _ refl)
+      start : (o : Result ⊤ Refusal) → (graph_of text id period).outcome ≡ o → Coming (graph_call text bytes id period)
+      start (Err r) e = subst Coming (sym (call-refused r e)) (refused r e)
+      start (Ok tt) e = subst Coming (sym (call-written e)) (by e _ refl)

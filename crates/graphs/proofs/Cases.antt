@@ -77,15 +77,15 @@ begun text id period = by (tried 1 id id_max) (tried 1 period period_max)
     by (inside l h) (outside o) = bad-period l h o
     by (inside l h) (inside k g) = ranged l h k g
 
-pub begun-id : (text : List ℕ) (id period : ℕ) → (id < 1) ⊎ (id_max < id) → graph_of text id period ≡ no_graph false (refusal bad_id 0)
+pub begun-id : (text : List ℕ) (id period : ℕ) → between 1 id id_max ≡ false → graph_of text id period ≡ no_graph false (refusal bad_id 0)
 unfolding graph_of
-begun-id text id period o = rw (between-out 1 id id_max o)
+begun-id text id period o = rw o
 
-module _ (text : List ℕ) (id period : ℕ) (l : 1 ≤ id) (h : id ≤ id_max) where
-  pub begun-period : (period < 1) ⊎ (period_max < period) → graph_of text id period ≡ no_graph false (refusal bad_period 0)
+module _ (text : List ℕ) (id period : ℕ) (h : between 1 id id_max ≡ true) where
+  pub begun-period : between 1 period period_max ≡ false → graph_of text id period ≡ no_graph false (refusal bad_period 0)
   unfolding graph_of
-  begun-period o = rw (between_in 1 id id_max l h, between-out 1 period period_max o)
+  begun-period o = rw (h, o)
 
-  pub begun-reading : 1 ≤ period → period ≤ period_max → graph_of text id period ≡ reading (length text) (word (count id period)) (words_at text 0)
+  pub begun-reading : between 1 period period_max ≡ true → graph_of text id period ≡ reading (length text) (word (count id period)) (words_at text 0)
   unfolding graph_of
-  begun-reading k g = rw (between_in 1 id id_max l h, between_in 1 period period_max k g)
+  begun-reading g = rw (h, g)

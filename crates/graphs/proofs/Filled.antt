@@ -6,9 +6,9 @@ use mathlib.Core.Bool.{Bool, true, false}
 use mathlib.Core.List.{List, [], ◌∷◌, ◌++◌}
 use native.Mathlib.Omega.{arith}
 use lib.Dec.{ltb}
+use Rattle.std.specs.Prelude.{Ok}
 use borrow.Author.Tests.{ltb-true, ltb-false}
 use Rattle.plain.specs.Pick.{pick}
-use Rattle.refusals.specs.declared.Outcome.TheVariants.{Accepted}
 use Rattle.tables.specs.declared.TaskTable.{TaskTable}
 use Rattle.tables.specs.Limits.{id_max, period_max, execution_max, least_execution}
 use Rattle.tables.specs.Runs.{SomeRuns, all_zero}
@@ -111,11 +111,11 @@ pub record Read (text : List ℕ) (id period : ℕ) (t : TaskTable) : Type 0 whe
   pub tasks : Tasks id period t.count t
   pub runs : SomeRuns t
 
-module _ (text : List ℕ) (id period : ℕ) (e : (graph_of text id period).outcome ≡ Accepted) where
+module _ (text : List ℕ) (id period : ℕ) (e : (graph_of text id period).outcome ≡ Ok tt) where
   pub graph-read : Read text id period (graph_of text id period).table
   graph-read = by (begun text id period) e
     where
-      by : {g : Graph} → Begun text id period g → g.outcome ≡ Accepted → Read text id period g.table
+      by : {g : Graph} → Begun text id period g → g.outcome ≡ Ok tt → Read text id period g.table
       by (bad-id o) q = clash (cc)
       by (bad-period l h o) q = clash (cc)
       by (ranged l h k g) q = let f = read-gives text id period q in record { gives = f.0; tasks = given-tasks id period l h k g f.0; runs = f.1 }

@@ -1,6 +1,8 @@
 pub mod Cases
 pub mod Steps
 pub mod Predecessors
+pub mod Words
+pub mod Along
 pub mod Ends
 pub mod Meets
 pub mod Filled

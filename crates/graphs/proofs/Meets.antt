@@ -7,12 +7,12 @@ use mathlib.Core.List.{List, [], ◌∷◌}
 use native.Mathlib.Nat.{le_refl}
 use native.Mathlib.Omega.{arith}
 use lib.ListN.{length}
+use Rattle.std.specs.Prelude.{Ok, Err}
 use Rattle.plain.specs.Pick.{pick}
 use Rattle.plain.proofs.Picks.{true-false}
 use Rattle.refusals.specs.Numbers.{bad_execution, bad_parent, none_runs, bad_layout, many_tasks}
 use Rattle.refusals.specs.Readers.{is_in}
 use Rattle.refusals.specs.declared.Refusal.{Refusal}
-use Rattle.refusals.specs.declared.Outcome.TheVariants.{Accepted, Refused}
 use Rattle.refusals.specs.Refusal.{refusal}
 use Rattle.tables.specs.declared.TaskTable.{TaskTable}
 use Rattle.tables.specs.Table.{empty_table}
@@ -85,7 +85,7 @@ module _ (text : List ℕ) (id period : ℕ) where
   rule-read (follows m c) = (false, reached m ∙ rw (reading, c))
   rule-read (nothing_runs {t} g z) = let e = given g in (e.0, e.1 ∙ rw (zero-all t.execution t.count z))
 
-  pub rule-refused : {k place : ℕ} → Refuses text id period k place → whole.outcome ≡ Refused (refusal k place)
+  pub rule-refused : {k place : ℕ} → Refuses text id period k place → whole.outcome ≡ Err (refusal k place)
   rule-refused f = ap (λ (g : Graph). g.outcome) (rule-read f).1
 
   -- what a text comes to
@@ -123,21 +123,21 @@ module _ (text : List ℕ) (id period : ℕ) where
   comes = comes-from (words_at text 0) (word (count id period)) begin
 
   -- and so a refusal is by its rule, beside the table that is all zeros, and an accepted table is given
-  pub refused-rule : (r : Refusal) → whole.outcome ≡ Refused r → ByRule (Refuses text id period) r
+  pub refused-rule : (r : Refusal) → whole.outcome ≡ Err r → ByRule (Refuses text id period) r
   refused-rule r q = by comes
     where
       by : Comes → ByRule (Refuses text id period) r
       by (refuses f) = by-rule (Refuses text id period) f (sym (rule-refused f) ∙ q)
       by (gives g runs) = clash (let e = ap (λ (x : Graph). x.outcome) (sym (gives-read g runs).1) ∙ q in cc)
 
-  pub refused-table : (r : Refusal) → whole.outcome ≡ Refused r → whole.table ≡ empty_table
+  pub refused-table : (r : Refusal) → whole.outcome ≡ Err r → whole.table ≡ empty_table
   refused-table r q = by comes
     where
       by : Comes → whole.table ≡ empty_table
       by (refuses f) = ap (λ (x : Graph). x.table) (rule-read f).1
       by (gives g runs) = clash (let e = ap (λ (x : Graph). x.outcome) (sym (gives-read g runs).1) ∙ q in cc)
 
-  pub read-gives : whole.outcome ≡ Accepted → Gives text id period whole.table × SomeRuns whole.table
+  pub read-gives : whole.outcome ≡ Ok tt → Gives text id period whole.table × SomeRuns whole.table
   read-gives q = by comes
     where
       by : Comes → Gives text id period whole.table × SomeRuns whole.table

@@ -1,10 +1,11 @@
 -- One predecessor more. The word says a number below n that was given before, which is 8, or one that was not, which goes behind those that were.
 use Prim.Native.Nat.{ℕ, zero, suc, ◌+◌, ◌-◌, ◌≤◌, ◌<◌}
-use mathlib.Core.Path.{◌≡◌, refl, ◌∙◌}
+use mathlib.Core.Path.{◌≡◌, refl, sym, ap, ◌∙◌}
 use mathlib.Core.Bool.{true, false}
 use mathlib.Core.List.{List, [], ◌∷◌, ◌++◌}
 use native.Mathlib.Omega.{arith}
 use lib.ListN.{length}
+use Rattle.std.specs.Prelude.{Result, Ok, Err}
 use Rattle.refusals.specs.Numbers.{bad_parent}
 use Rattle.refusals.specs.declared.Refusal.{Refusal}
 use Rattle.refusals.specs.Refusal.{refusal}
@@ -12,10 +13,13 @@ use Rattle.tables.specs.declared.TaskTable.{TaskTable}
 use Rattle.tables.specs.Limits.{count_max}
 use Rattle.records.specs.Nodes.{with_node}
 use Rattle.records.specs.Reading.{headed}
+use Rattle.sets.specs.Member.{is_member}
+use Rattle.sets.specs.Inner.Put.{with_member}
 use Rattle.listings.specs.Lists.{is_listed, list_set}
-use Rattle.graphs.specs.declared.Taken.{Taken}
-use Rattle.graphs.specs.declared.Taken.TheVariants.{Read, Refused}
-use Rattle.graphs.specs.Expected.{task_from, predecessor_from}
+use Rattle.listings.specs.declared.Listing.{Listing}
+use Rattle.listings.proofs.Lists.{member-listed, set-behind, met-none}
+use Rattle.graphwords.specs.declared.Number.{Number}
+use Rattle.graphs.specs.Expected.{Next, task_from, predecessor_from}
 use Rattle.graphs.specs.Expected.Due.{predecessor}
 use Rattle.graphs.specs.Graph.{no_graph}
 use Rattle.graphs.specs.Inner.Taken.{number_taken, reading_at}
@@ -26,29 +30,77 @@ pub next-none : (t : TaskTable) (i time left : ℕ) (given : List ℕ) → left 
 next-none t i time zero given h = refl
 next-none t i time (suc left) given h = absurd (omega arith)
 
-module _ (text : List ℕ) (n : ℕ) (some : 1 ≤ n) (few : n ≤ count_max) (from : ℕ) (found : Taken) (is : found ≡ number_taken bad_parent 0 (n - 1) text from) where
+module _ (text : List ℕ) (n : ℕ) (some : 1 ≤ n) (few : n ≤ count_max) (from : ℕ) where
+  abbrev Is : Result Number Refusal → Type 0
+  Is found = found ≡ number_taken bad_parent 0 (n - 1) text from
+
   -- whichever task it is a predecessor of
   module _ (t : TaskTable) (i time : ℕ) (same : t.count ≡ n) where
-    was : found ≡ number_taken bad_parent 0 (t.count - 1) text from
-    was = rw same is
+    was : {found : Result Number Refusal} → Is found → found ≡ number_taken bad_parent 0 (t.count - 1) text from
+    was is = rw same is
 
-    gone : (left : ℕ) (given : List ℕ) (v place end : ℕ) → found ≡ Read v place end → Passed text (predecessor t i time left given) from v place end
-    gone left given v place end e = passed text (predecessor t i time left given) (omega arith) (omega arith) from found was v place end e
+    gone : (left : ℕ) (given : List ℕ) (p : Number) → Is (Ok p) → Passed text (predecessor t i time left given) from p
+    gone left given p is = passed text (predecessor t i time left given) (omega arith) (omega arith) from p (was is)
 
-    pub next-out : (left : ℕ) (given : List ℕ) → 0 < left → (r : Refusal) → found ≡ Refused r → reading_at text (predecessor_from t i time left given) from ≡ no_graph false r
-    next-out zero given h r e = absurd (omega arith)
-    next-out (suc left) given h r e = step-out text (predecessor t i time left given) (omega arith) (omega arith) from found was r e
+    pub next-out : (left : ℕ) (given : List ℕ) → 0 < left → (r : Refusal) → Is (Err r) → reading_at text (predecessor_from t i time left given) from ≡ no_graph false r
+    next-out zero given h r is = absurd (omega arith)
+    next-out (suc left) given h r is = step-out text (predecessor t i time left given) (omega arith) (omega arith) from r (was is)
 
-    pub next-again : (left : ℕ) (given : List ℕ) → 0 < left → (v place end : ℕ) → found ≡ Read v place end → is_listed given v ≡ true →
-        reading_at text (predecessor_from t i time left given) from ≡ no_graph false (refusal bad_parent place)
-    next-again zero given h v place end e l = absurd (omega arith)
-    next-again (suc left) given h v place end e l = (gone left given v place end e).goes ∙ rw l
+    pub next-again : (left : ℕ) (given : List ℕ) → 0 < left → (p : Number) → Is (Ok p) → is_listed given p.value ≡ true →
+        reading_at text (predecessor_from t i time left given) from ≡ no_graph false (refusal bad_parent p.place)
+    next-again zero given h p is l = absurd (omega arith)
+    next-again (suc left) given h p is l = (gone left given p is).goes ∙ rw l
 
-    pub next-on : (left : ℕ) (given : List ℕ) → 0 < left → (v place end : ℕ) → found ≡ Read v place end → is_listed given v ≡ false →
-        reading_at text (predecessor_from t i time left given) from ≡ reading_at text (predecessor_from t i time (left - 1) (given ++ v ∷ [])) end
-    next-on zero given h v place end e l = absurd (omega arith)
-    next-on (suc left) given h v place end e l = let k : suc left - 1 ≡ left = omega arith in (gone left given v place end e).goes ∙ rw (l, k)
+    pub next-on : (left : ℕ) (given : List ℕ) → 0 < left → (p : Number) → Is (Ok p) → is_listed given p.value ≡ false →
+        reading_at text (predecessor_from t i time left given) from ≡ reading_at text (predecessor_from t i time (left - 1) (given ++ p.value ∷ [])) p.end
+    next-on zero given h p is l = absurd (omega arith)
+    next-on (suc left) given h p is l = let k : suc left - 1 ≡ left = omega arith in (gone left given p is).goes ∙ rw (l, k)
 
   -- it is below n, inside the text
-  pub next-inside : (v place end : ℕ) → found ≡ Read v place end → (v < n) × (end ≤ length text)
-  next-inside v place end e = let p = gone (headed 0 0 0 n) 0 0 refl 0 [] v place end e in (omega (arith, p.most), p.inside)
+  pub next-inside : (p : Number) → Is (Ok p) → (p.value < n) × (p.end ≤ length text)
+  next-inside p is = let q = gone (headed 0 0 0 n) 0 0 refl 0 [] p is in (omega (arith, q.most), q.inside)
+
+-- so many of them were taken: those that were given, as a set, and the reading has come to the others
+pub record Given (text : List ℕ) (from n count passed set at : ℕ) : Type 0 where
+  pub given : List ℕ
+  pub is : set ≡ list_set given
+  pub inside : at ≤ length text
+  pub goes : (t : TaskTable) (i time : ℕ) → t.count ≡ n → reading_at text (predecessor_from t i time count []) from ≡ reading_at text (predecessor_from t i time (count - passed) given) at
+
+pub given-none : (text : List ℕ) (from n count : ℕ) → from ≤ length text → Given text from n count 0 0 from
+given-none text from n count h =
+    record { given = []; is = ap (λ (l : Listing). l.set) (sym (met-none 0)); inside = h; goes = λ t i time same. let e : count - 0 ≡ count = omega arith in rw e }
+
+module _ {text : List ℕ} {from n count passed set at : ℕ} (g : Given text from n count passed set at) (some : 1 ≤ n) (few : n ≤ count_max) where
+  -- one more is refused
+  pub given-out : passed < count → (r : Refusal) → Err r ≡ number_taken bad_parent 0 (n - 1) text at → (t : TaskTable) (i time : ℕ) → t.count ≡ n →
+      reading_at text (predecessor_from t i time count []) from ≡ no_graph false r
+  given-out h r is t i time same = g.goes t i time same ∙ next-out text n some few at t i time same (count - passed) g.given (omega arith) r is
+
+  -- it was taken, and was given before, or was not
+  module _ {p : Number} (is : Ok p ≡ number_taken bad_parent 0 (n - 1) text at) where
+    pub given-small : p.value < count_max
+    given-small = omega (arith, (next-inside text n some few at p is).0)
+
+    was-given : is_listed g.given p.value ≡ is_member p.value set
+    was-given = sym (member-listed g.given p.value given-small) ∙ ap (is_member p.value) (sym g.is)
+
+    pub given-again : passed < count → is_member p.value set ≡ true → (t : TaskTable) (i time : ℕ) → t.count ≡ n →
+        reading_at text (predecessor_from t i time count []) from ≡ no_graph false (refusal bad_parent p.place)
+    given-again h m t i time same = g.goes t i time same ∙ next-again text n some few at t i time same (count - passed) g.given (omega arith) p is (was-given ∙ m)
+
+    pub given-more : passed < count → is_member p.value set ≡ false → Given text from n count (passed + 1) (with_member p.value set) p.end
+    given-more h m = record {
+      given = g.given ++ p.value ∷ [];
+      is = ap (with_member p.value) g.is ∙ sym (set-behind g.given p.value given-small);
+      inside = (next-inside text n some few at p is).1;
+      goes = λ t i time same. let e : count - (passed + 1) ≡ count - passed - 1 = omega arith in
+          g.goes t i time same ∙ next-on text n some few at t i time same (count - passed) g.given (omega arith) p is (was-given ∙ m) ∙ rw e;
+    }
+
+  -- all of them
+  pub given-all : count ≤ passed → (t : TaskTable) (i time : ℕ) → t.count ≡ n →
+      reading_at text (predecessor_from t i time count []) from ≡ reading_at text (task_from (with_node t i time set) (i + 1)) at
+  given-all h t i time same =
+      g.goes t i time same ∙ ap (λ (next : Next). reading_at text next at)
+      (next-none t i time (count - passed) g.given (omega arith) ∙ ap (λ (w : ℕ). task_from (with_node t i time w) (i + 1)) (sym g.is))

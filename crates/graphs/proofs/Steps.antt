@@ -1,46 +1,40 @@
 -- One word. The text ends, or its next word is no number, is one outside the range, or is in it: a value up to a limit below the cap is the word's own number, and
 -- the reading goes on past the word.
 use Prim.Native.Nat.{ℕ, ◌≤◌, ◌<◌}
-use mathlib.Core.Path.{◌≡◌, refl, sym, subst}
-use mathlib.Core.Logic.{◌⊎◌}
+use mathlib.Core.Path.{◌≡◌, refl, sym, ap, subst, ◌∙◌}
 use mathlib.Core.Bool.{Bool, true, false, not}
 use mathlib.Core.List.{List, ◌∷◌}
 use native.Mathlib.Omega.{arith}
 use lib.ListN.{length}
 use borrow.Author.Tests.{lt-ltb, le-ltb}
+use Rattle.std.specs.Prelude.{Result, Ok, Err}
+use Rattle.std.specs.Result.{IsErrAnd}
 use Rattle.plain.specs.Pick.{pick}
 use Rattle.refusals.specs.declared.Refusal.{Refusal}
 use Rattle.refusals.specs.Numbers.{bad_layout}
 use Rattle.refusals.specs.Refusal.{refusal}
 use Rattle.tables.specs.declared.TaskTable.{TaskTable}
+use Rattle.graphwords.specs.declared.Number.{Number}
 use Rattle.graphwords.specs.Words.{Word, words_at}
 use Rattle.graphwords.specs.Decimal.{is_decimal, decimal_of}
 use Rattle.graphwords.specs.Inner.Found.{cap, capped, past_word, found_in}
 use Rattle.graphwords.proofs.Words.{First, word_here, past-inside, first_word}
 use Rattle.graphwords.proofs.Words.First.{none, one}
 use Rattle.graphwords.proofs.Capped.{capped-below, capped-high, capped-low}
-use Rattle.graphs.specs.declared.Taken.{Taken}
-use Rattle.graphs.specs.declared.Taken.TheVariants.{Read, Refused}
+use Rattle.graphs.specs.declared.Graph.{Graph}
 use Rattle.graphs.specs.Expected.{Due, range, between, repeats, task_from, after}
 use Rattle.graphs.specs.Expected.Due.{number}
 use Rattle.graphs.specs.Expected.Next.{word, done}
 use Rattle.graphs.specs.Graph.{no_graph, reading}
-use Rattle.graphs.specs.Inner.Taken.{then_taken, found_taken, number_taken, Within, reading_at}
+use Rattle.graphs.specs.Inner.Taken.{found_taken, number_taken, then_taken, reading_at}
 use Rattle.graphs.proofs.Cases.{Between, tried, between_in, between-out}
 use Rattle.graphs.proofs.Cases.Between.{inside, outside}
 
--- what was taken, and what was refused
-pub then-read : {A : Type 0} (out : Refusal → A) (step : Taken) (more : ℕ → ℕ → ℕ → A) (v place end : ℕ) → step ≡ Read v place end → then_taken out step more ≡ more v place end
-unfolding then_taken
-then-read out step more v place end e = rw e
-
-pub then-refused : {A : Type 0} (out : Refusal → A) (step : Taken) (more : ℕ → ℕ → ℕ → A) (r : Refusal) → step ≡ Refused r → then_taken out step more ≡ out r
-unfolding then_taken
-then-refused out step more r e = rw e
-
--- a refusal has no place to be inside
-pub out_within : (text : List ℕ) (step : Taken) (r : Refusal) → step ≡ Refused r → Within text step
-out_within text step r e = rw e tt
+-- a refusal ends the reading
+pub taken-out : {T : Type 0} (graph : Graph) (taken : Result T Refusal) (more : T → Graph) {r : Refusal} →
+    IsErrAnd taken (λ x. x ≡ r) → graph ≡ no_graph false r → graph ≡ then_taken (no_graph false) taken more
+taken-out graph (Ok t) more w e = absurd w
+taken-out graph (Err x) more w e = e ∙ ap (no_graph false) (sym w)
 
 -- task i is expected where it is one of the tasks, else nothing more
 pub task-left : (t : TaskTable) (i : ℕ) → i < t.count → task_from t i ≡ word (number t i)
@@ -49,38 +43,28 @@ task-left t i h = rw (lt-ltb i t.count h)
 pub none_left : (t : TaskTable) (i : ℕ) → t.count ≤ i → task_from t i ≡ done t
 none_left t i h = rw (le-ltb i t.count h)
 
--- a number outside the range, and in it
-module _ (broken low high v place end : ℕ) where
-  abbrev ranged : Taken
-  ranged = pick (between low v high) (Read v place end) (Refused (refusal broken place))
-
-  pub tried-out : (v < low) ⊎ (high < v) → ranged ≡ Refused (refusal broken place)
-  tried-out o = rw (between-out low v high o)
-
-  pub tried-in : low ≤ v → v ≤ high → ranged ≡ Read v place end
-  tried-in l h = rw (between_in low v high l h)
-
 module _ (text : List ℕ) (due : Due) where
-  -- the first of the words was taken: its value, and what the reading comes to past it
-  pub record Taking (words : List Word) (v place end : ℕ) : Type 0 where
-    pub least : (range due).low ≤ v
-    pub most : v ≤ (range due).high
-    pub inside : end ≤ length text
-    pub goes : reading (length text) (word due) words ≡ pick (not (repeats due v)) (reading_at text (after due v) end) (no_graph false (refusal (range due).broken place))
+  -- the first of the words was taken: its number, and what the reading comes to past it
+  pub record Taking (words : List Word) (n : Number) : Type 0 where
+    pub least : (range due).low ≤ n.value
+    pub most : n.value ≤ (range due).high
+    pub inside : n.end ≤ length text
+    pub goes : reading (length text) (word due) words ≡
+        pick (not (repeats due n.value)) (reading_at text (after due n.value) n.end) (no_graph false (refusal (range due).broken n.place))
 
   -- it was refused or taken
-  data Step : Taken → List Word → Type 0 where
-    out : (r : Refusal) {words : List Word} → reading (length text) (word due) words ≡ no_graph false r → Step (Refused r) words
-    on : {v place end : ℕ} {words : List Word} → Taking words v place end → Step (Read v place end) words
+  data Step : Result Number Refusal → List Word → Type 0 where
+    out : (r : Refusal) {words : List Word} → reading (length text) (word due) words ≡ no_graph false r → Step (Err r) words
+    on : {n : Number} {words : List Word} → Taking words n → Step (Ok n) words
 
   -- the first word from a place on
-  abbrev pub Passed : (from v place end : ℕ) → Type 0
-  Passed from v place end = Taking (words_at text from) v place end
+  abbrev pub Passed : (from : ℕ) (n : Number) → Type 0
+  Passed from n = Taking (words_at text from) n
 
   -- limits below the cap
   module _ (low : (range due).low < cap) (high : (range due).high < cap) where
     -- the words that are left, tried in the range
-    abbrev taken : List Word → Taken
+    abbrev taken : List Word → Result Number Refusal
     taken words = found_taken (range due).broken (range due).low (range due).high (length text) (found_in words)
 
     -- the range says the same of a number counted up to the cap
@@ -97,20 +81,20 @@ module _ (text : List ℕ) (due : Due) where
           let v = decimal_of w.letters in
           let e = between_in (range due).low v (range due).high l h in
           let same : capped v ≡ v = capped-below v (omega (arith, h, high)) in
-          let read : taken words ≡ Read v w.place (past_word w) = rw (found_in, d, same, e) in
-          subst (λ (t : Taken). Step t words) (sym read) (on record { least = l; most = h; inside = past; goes = rw (reading, d, e) })
+          let read : taken words ≡ Ok (record { value = v; place = w.place; end = past_word w }) = rw (found_in, d, same, e) in
+          subst (λ (t : Result Number Refusal). Step t words) (sym read) (on record { least = l; most = h; inside = past; goes = rw (reading, d, e) })
       in-range d (outside o) =
           let v = decimal_of w.letters in
           let e = between-out (range due).low v (range due).high o in
-          let refused : taken words ≡ Refused (refusal (range due).broken w.place) = rw (found_in, d, counted v, e) in
-          subst (λ (t : Taken). Step t words) (sym refused) (out _ (rw (reading, d, e)))
+          let refused : taken words ≡ Err (refusal (range due).broken w.place) = rw (found_in, d, counted v, e) in
+          subst (λ (t : Result Number Refusal). Step t words) (sym refused) (out _ (rw (reading, d, e)))
 
       any : (b : Bool) → is_decimal w.letters ≡ b → Step (taken words) words
       unfolding found_in reading
       any true d = in-range d (tried _ _ _)
       any false d =
-          let refused : taken words ≡ Refused (refusal bad_layout w.place) = rw (found_in, d) in
-          subst (λ (t : Taken). Step t words) (sym refused) (out _ (rw (reading, d)))
+          let refused : taken words ≡ Err (refusal bad_layout w.place) = rw (found_in, d) in
+          subst (λ (t : Result Number Refusal). Step t words) (sym refused) (out _ (rw (reading, d)))
 
     step : {words : List Word} → First text words → Step (taken words) words
     unfolding found_in reading
@@ -118,18 +102,18 @@ module _ (text : List ℕ) (due : Due) where
     step (one place h) = any (word_here text place) (past-inside text place h) _ refl
 
     -- a step that was refused, and one that was taken
-    module _ (from : ℕ) (found : Taken) (is : found ≡ number_taken (range due).broken (range due).low (range due).high text from) where
-      stepped : Step found (words_at text from)
-      stepped = subst (λ (t : Taken). Step t (words_at text from)) (sym is) (step (first_word text from))
+    module _ (from : ℕ) where
+      stepped : {found : Result Number Refusal} → found ≡ number_taken (range due).broken (range due).low (range due).high text from → Step found (words_at text from)
+      stepped is = subst (λ (t : Result Number Refusal). Step t (words_at text from)) (sym is) (step (first_word text from))
 
-      pub step-out : (r : Refusal) → found ≡ Refused r → reading_at text (word due) from ≡ no_graph false r
-      step-out r e = go (subst (λ (t : Taken). Step t (words_at text from)) e stepped)
+      pub step-out : (r : Refusal) → Err r ≡ number_taken (range due).broken (range due).low (range due).high text from → reading_at text (word due) from ≡ no_graph false r
+      step-out r is = go (stepped is)
         where
-          go : {words : List Word} → Step (Refused r) words → reading (length text) (word due) words ≡ no_graph false r
+          go : {words : List Word} → Step (Err r) words → reading (length text) (word due) words ≡ no_graph false r
           go (out _ q) = q
 
-      pub passed : (v place end : ℕ) → found ≡ Read v place end → Passed from v place end
-      passed v place end e = go (subst (λ (t : Taken). Step t (words_at text from)) e stepped)
+      pub passed : (n : Number) → Ok n ≡ number_taken (range due).broken (range due).low (range due).high text from → Passed from n
+      passed n is = go (stepped is)
         where
-          go : Step (Read v place end) (words_at text from) → Passed from v place end
+          go : Step (Ok n) (words_at text from) → Passed from n
           go (on t) = t

@@ -1,7 +1,6 @@
 -- Texts that say the same: parted in other ways, with other zeros in front.
-use Rattle.std.specs.Prelude.{ℕ, ◌≡◌, true, List, [], ◌∷◌, ◌++◌, replicate}
-use Rattle.refusals.specs.declared.Outcome.{Outcome}
-use Rattle.refusals.specs.declared.Outcome.TheVariants.{Accepted, Refused}
+use Rattle.std.specs.Prelude.{ℕ, ◌≡◌, true, List, [], ◌∷◌, ◌++◌, replicate, Result, Ok, Err, ⊤}
+use Rattle.refusals.specs.declared.Refusal.{Refusal}
 use Rattle.graphwords.specs.Words.{Word, words_at}
 use Rattle.graphwords.specs.Decimal.{is_decimal}
 use Rattle.graphs.specs.declared.Graph.{Graph}
@@ -22,9 +21,9 @@ pub data Zeros : (words padded : List (List ℕ)) → Type 0 where
   in-front : {words padded : List (List ℕ)} (k : ℕ) (w : List ℕ) → is_decimal w ≡ true → Zeros words padded → Zeros (w ∷ words) ((replicate k 48 ++ w) ∷ padded)
 
 -- a refusal's number, 0 where there is none
-abbrev pub number_of : Outcome → ℕ
-number_of Accepted = 0
-number_of (Refused r) = r.number
+abbrev pub number_of : Result ⊤ Refusal → ℕ
+number_of (Ok done) = 0
+number_of (Err r) = r.number
 
 -- the same table, or a refusal by the same number; places move
 abbrev pub SaySame : Graph → Graph → Type 0

@@ -1,9 +1,8 @@
 -- A whole text, word by word.
-use Rattle.std.specs.Prelude.{ℕ, Bool, true, false, List, [], ◌∷◌, length}
+use Rattle.std.specs.Prelude.{ℕ, Bool, true, false, List, [], ◌∷◌, length, Ok, Err}
 use Rattle.plain.specs.Pick.{pick}
 use Rattle.refusals.specs.Numbers.{bad_id, bad_period, bad_layout, none_runs}
 use Rattle.refusals.specs.declared.Refusal.{Refusal}
-use Rattle.refusals.specs.declared.Outcome.TheVariants.{Accepted, Refused}
 use Rattle.refusals.specs.Refusal.{refusal}
 use Rattle.tables.specs.declared.TaskTable.{TaskTable}
 use Rattle.tables.specs.Limits.{id_max, period_max}
@@ -18,11 +17,11 @@ use Rattle.graphs.specs.Expected.Next.{word, done}
 
 -- the table that was read, and whether a comment ended the reading
 abbrev pub graph_read : (commented : Bool) → TaskTable → Graph
-graph_read commented t = record { outcome = Accepted; table = t; commented = commented }
+graph_read commented t = record { outcome = Ok tt; table = t; commented = commented }
 
 -- "from any reader of a table, a table that is all zeros"
 abbrev pub no_graph : (commented : Bool) → Refusal → Graph
-no_graph commented r = record { outcome = Refused r; table = empty_table; commented = commented }
+no_graph commented r = record { outcome = Err r; table = empty_table; commented = commented }
 
 -- "21 last": all times are 0
 abbrev pub unless_all_zero : (commented : Bool) → TaskTable → Graph
