@@ -1,4 +1,5 @@
 -- The call case by case: the rules are tried in turn, each that is broken says how, and the record is written once none is.
+use Rattle.std.specs.Prelude.{Result, Ok, Err, ⊤}
 use Prim.Native.Nat.{ℕ, zero, suc, ◌≤◌, ◌<◌}
 use mathlib.Core.Path.{◌≡◌, ap}
 use mathlib.Core.Logic.{◌⊎◌, inl, inr, ⊎_elim}
@@ -16,8 +17,6 @@ use Rattle.plain.proofs.Picks.{true-false, pick-case}
 use Rattle.plain.proofs.Tests.{between-true, true-between}
 use Rattle.refusals.specs.Numbers.{few_words, wrong_length, bad_plan, big_word}
 use Rattle.refusals.specs.declared.Refusal.{Refusal}
-use Rattle.refusals.specs.declared.Outcome.{Outcome}
-use Rattle.refusals.specs.declared.Outcome.TheVariants.{Accepted, Refused}
 use Rattle.refusals.specs.Refusal.{refusal, on_outcome}
 use Rattle.tables.specs.Limits.{count_max}
 use Rattle.numbers.proofs.Cases.{clash}
@@ -92,10 +91,10 @@ module _ {A : Type 0} (refuse : Refusal → A) (go : A) (words : List ℕ) (room
       (λ s. bad-segments enough (count-outside (at words 1) s)))
 
 -- where no rule refuses, everything fits
-pub passes : (words : List ℕ) (room id : ℕ) → before_writing words room id ≡ Accepted → Fits words room id
-passes words room id e = by (ruled Refused Accepted words room id) (ap (on_outcome Refused Accepted) e)
+pub passes : (words : List ℕ) (room id : ℕ) → before_writing words room id ≡ Ok tt → Fits words room id
+passes words room id e = by (ruled {A = Result ⊤ Refusal} Err (Ok tt) words room id) (ap (on_outcome Err (Ok tt)) e)
   where
-    by : {o : Outcome} → Ruled Refused Accepted words room id o → o ≡ Accepted → Fits words room id
+    by : {o : Result ⊤ Refusal} → Ruled Err (Ok tt) words room id o → o ≡ Ok tt → Fits words room id
     by (few a) e = clash (cc)
     by (bad-segments a b) e = clash (cc)
     by (bad-nodes a b d) e = clash (cc)
@@ -105,11 +104,11 @@ passes words room id e = by (ruled Refused Accepted words room id) (ap (on_outco
 
 module _ (words bytes : List ℕ) (id : ℕ) where
   -- the call by what its rules come to
-  pub call-refused : (r : Refusal) → before_writing words (length bytes) id ≡ Refused r → write_plan_call words bytes id ≡ unwritten bytes r
+  pub call-refused : (r : Refusal) → before_writing words (length bytes) id ≡ Err r → write_plan_call words bytes id ≡ unwritten bytes r
   unfolding write_plan_call
   call-refused r e = rw e
 
-  pub call-accepted : before_writing words (length bytes) id ≡ Accepted → write_plan_call words bytes id ≡ written (plan_record_of id words) bytes
+  pub call-accepted : before_writing words (length bytes) id ≡ Ok tt → write_plan_call words bytes id ≡ written (plan_record_of id words) bytes
   unfolding write_plan_call
   call-accepted e = rw e
 

@@ -1,17 +1,19 @@
 -- Values are small where each is, wherever it stands: the test asks every place of the list, so the order of the values is nothing to it.
 use Prim.Native.Nat.{ℕ, zero, suc, ◌+◌, ◌-◌, ◌≤◌, ◌<◌}
-use mathlib.Core.Path.{◌≡◌}
+use mathlib.Core.Path.{◌≡◌, refl, sym}
 use mathlib.Core.Logic.{⊎_elim}
-use mathlib.Core.Bool.{true, false}
+use mathlib.Core.Bool.{Bool, true, false}
 use mathlib.Core.List.{List, ◌∷◌, ◌++◌}
 use native.Mathlib.Omega.{arith}
 use lib.ListN.{length, get_or-eq_default, get_or-append}
 use lib.Seq.{get_or-append-add}
 use lib.Dec.{ltb}
-use borrow.Author.Tests.{lt-ltb, le-ltb, ltb-true}
+use borrow.Author.Tests.{lt-ltb, ltb-true}
 use Rattle.plain.specs.At.{at}
 use Rattle.plain.proofs.Lists.{lt-or-ge}
-use Rattle.plain.proofs.Tests.{all_to-true, true-all_to, all_to-false}
+use Rattle.plain.proofs.Picks.{true-false}
+use Rattle.plain.proofs.Tests.{not-held, all_to-true, true-all_to}
+use Rattle.std.specs.Prelude.{◌↔◌, IsTrue, EachIndex}
 use Rattle.planwriters.specs.Writing.{value_limit, are_small}
 use Rattle.planwriters.specs.Inner.Fits.{Small}
 
@@ -30,10 +32,10 @@ pub values-small : (values : List ℕ) → ((k : ℕ) → k < length values → 
 unfolding are_small
 values-small values s = true-all_to (length values) (λ k. ltb (at values k) value_limit) λ k h. lt-ltb _ _ (s k h)
 
--- one that is not makes it fail
-pub value-big : (values : List ℕ) (k : ℕ) → k < length values → value_limit ≤ at values k → are_small values ≡ false
-unfolding are_small
-value-big values k h l = all_to-false (length values) (λ j. ltb (at values j) value_limit) k h (le-ltb _ _ l)
+-- a test that asks each place is this one
+pub small-told : (values : List ℕ) (b : Bool) → (IsTrue b ↔ EachIndex values (λ k. at values k < value_limit)) → b ≡ are_small values
+small-told values true told = sym (values-small values (told.0 refl))
+small-told values false told = sym (not-held (are_small values) λ e. true-false (told.1 λ k h. (small-values values e).each k) refl)
 
 -- a value before others
 pub small-before : {v : ℕ} {vs : List ℕ} → v < value_limit → Small vs → Small (v ∷ vs)

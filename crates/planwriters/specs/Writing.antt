@@ -1,12 +1,10 @@
 -- Writing a plan's words as a plan record: "The writer gives 16, 24 (at the word's index), 28, .. and 19 last."
-use Rattle.std.specs.Prelude.{ℕ, ◌+◌, ◌*◌, ◌^◌, Bool, List, ◌∷◌, ◌++◌, ltb, length, take, drop}
+use Rattle.std.specs.Prelude.{ℕ, ◌+◌, ◌*◌, ◌^◌, Bool, List, ◌∷◌, ◌++◌, Result, Ok, Err, ⊤, ltb, length, take, drop}
 use Rattle.plain.specs.At.{at}
 use Rattle.plain.specs.Pick.{pick}
 use Rattle.plain.specs.Tests.{between, all_to}
 use Rattle.refusals.specs.Numbers.{few_words, wrong_length, bad_plan, big_word}
 use Rattle.refusals.specs.declared.Refusal.{Refusal}
-use Rattle.refusals.specs.declared.Outcome.{Outcome}
-use Rattle.refusals.specs.declared.Outcome.TheVariants as outcome
 use Rattle.refusals.specs.Refusal.{refusal, on_outcome}
 use Rattle.refusals.specs.Answer.{accepted, refused}
 use Rattle.refusals.specs.After.{After}
@@ -36,19 +34,19 @@ unfoldable pub are_small : (values : List ℕ) → Bool
 are_small values = all_to (length values) (λ k. ltb (at values k) value_limit)
 
 -- a rule: where it is broken, its refusal; else the rules after it
-abbrev pub unless_broken : (kept : Bool) (number place : ℕ) → Outcome → Outcome
-unless_broken kept number place later = pick kept later (outcome.Refused (refusal number place))
+abbrev pub unless_broken : (kept : Bool) (number place : ℕ) → Result ⊤ Refusal → Result ⊤ Refusal
+unless_broken kept number place later = pick kept later (Err (refusal number place))
 
 -- the rules of a plan whose counts are in range: 28; "19 last", where `room` bytes are too few
-abbrev pub after_counts : (words : List ℕ) (room id : ℕ) → Outcome
+abbrev pub after_counts : (words : List ℕ) (room id : ℕ) → Result ⊤ Refusal
 after_counts words room id =
     unless_broken (are_small (numbers_of id words)) big_word 0
-    (pick (ltb room (length (plan_record_of id words))) (outcome.Refused (refusal wrong_length room)) outcome.Accepted)
+    (pick (ltb room (length (plan_record_of id words))) (Err (refusal wrong_length room)) (Ok tt))
 
 -- 16; 24, "a list's count is outside 1..64", at the word's index; then those
-unfoldable pub before_writing : (words : List ℕ) (room id : ℕ) → Outcome
+unfoldable pub before_writing : (words : List ℕ) (room id : ℕ) → Result ⊤ Refusal
 before_writing words room id =
-    pick (ltb (length words) words_max) (outcome.Refused (refusal few_words 0))
+    pick (ltb (length words) words_max) (Err (refusal few_words 0))
     (unless_broken (between 1 (at words 1) count_max) bad_plan 1
     (unless_broken (between 1 (at words 2) count_max) bad_plan 2
     (after_counts words room id)))

@@ -3,6 +3,7 @@
 
 ghost use Rattle.std.specs.Prelude.{◌≡◌, ◌+◌, ◌≤◌, length};
 ghost use Rattle.std.proofs.lemmas.List.Edits.{sets};
+ghost use Rattle.refusals.specs.Answer.{answered};
 ghost use Rattle.plain.specs.Tests.{between};
 ghost use Rattle.tables.specs.Limits.{count_max};
 ghost use Rattle.numbers.specs.Number.{plan_more};
@@ -11,7 +12,7 @@ ghost use Rattle.plans.specs.Words.{words_max};
 ghost use Rattle.planwriters.specs.Writing.{are_small, plan_record_of, before_writing, write_plan_call};
 ghost use Rattle.planwriters.specs.Inner.Fits.{Small, Fits};
 
-use refusals::{Answer, Outcome, Refusal};
+use refusals::{Answer, Reason, Refusal};
 use tables::TaskTable;
 
 // The first value that nine groups of seven bits do not hold.
@@ -21,15 +22,7 @@ const VALUE_LIMIT: u64 = 9223372036854775808;
 fn are_small(values: &[u64]) -> bool
     ensures { result ≡ are_small values.now }
 {
-    let n = values.len();
-    let mut i: usize = 0;
-    while i < n {
-        if VALUE_LIMIT <= values[i] {
-            return false;
-        }
-        i += 1;
-    }
-    true
+    values.iter().all(|value| *value < VALUE_LIMIT)
 }
 
 // How many bytes the values take, one after the other.
@@ -37,14 +30,7 @@ fn size_of(values: &[u64]) -> usize
     requires { Small values.now × (length values.now ≤ words_max) }
     ensures { result ≡ length (all_shortest plan_more values.now) }
 {
-    let n = values.len();
-    let mut size: usize = 0;
-    let mut i: usize = 0;
-    while i < n {
-        size += numbers::length_of(values[i]);
-        i += 1;
-    }
-    size
+    values.iter().map(|value| numbers::length_of(*value)).sum()
 }
 
 // Writes the values from a place on, and tells the place after them.
@@ -53,12 +39,9 @@ fn write_values(values: &[u64], bytes: &mut [u8], from: usize) -> usize
     ensures value { result ≡ from + length (all_shortest plan_more values.now) }
     ensures bytes_after { bytes.new ≡ sets bytes.old from (all_shortest plan_more values.now) }
 {
-    let n = values.len();
     let mut at = from;
-    let mut i: usize = 0;
-    while i < n {
-        at = numbers::write_number(bytes, at, values[i]);
-        i += 1;
+    for value in values {
+        at = numbers::write_number(bytes, at, *value);
     }
     at
 }
@@ -67,32 +50,32 @@ fn write_values(values: &[u64], bytes: &mut [u8], from: usize) -> usize
 fn is_count(value: u64) -> bool
     ensures { result ≡ between 1 value count_max }
 {
-    1 <= value && value <= TaskTable::COUNT_MAX
+    (1..=TaskTable::COUNT_MAX).contains(&value)
 }
 
 // The rules, in their order. The order of the numbers is nothing to their limit and their size, so both are asked of the words as they stand.
-fn before_writing(words: &[u64], room: usize, id: u64) -> Outcome
+fn before_writing(words: &[u64], room: usize, id: u64) -> Result<(), Refusal>
     ensures { result ≡ before_writing words.now room id }
 {
     if words.len() < plans::WORDS_MAX {
-        return Outcome::Refused(Refusal::of(Refusal::FEW_WORDS, 0));
+        return Err(Reason::FewWords.at(0));
     }
     let s = words[1];
     if !is_count(s) {
-        return Outcome::Refused(Refusal::of(Refusal::BAD_PLAN, 1));
+        return Err(Reason::BadPlan.at(1));
     }
     let n = words[2];
     if !is_count(n) {
-        return Outcome::Refused(Refusal::of(Refusal::BAD_PLAN, 2));
+        return Err(Reason::BadPlan.at(2));
     }
     let written = &words[..(3 + 3 * s + 3 * n) as usize];
     if VALUE_LIMIT <= id || !are_small(written) {
-        return Outcome::Refused(Refusal::of(Refusal::BIG_WORD, 0));
+        return Err(Reason::BigWord.at(0));
     }
     if room < numbers::length_of(id) + size_of(written) {
-        return Outcome::Refused(Refusal::of(Refusal::WRONG_LENGTH, room));
+        return Err(Reason::WrongLength.at(room));
     }
-    Outcome::Accepted
+    Ok(())
 }
 
 // The numbers of the record, part by part: each list after its count. The place after them.
@@ -110,14 +93,17 @@ fn write_numbers(words: &[u64], bytes: &mut [u8], id: u64) -> usize
     write_values(&words[nodes..end], bytes, nodes_at)
 }
 
+// How many bytes the plan of the words takes with an id; the first refusal of the rules writes none.
+fn write_record(words: &[u64], bytes: &mut [u8], id: u64) -> Result<u64, Refusal>
+    ensures { record { answer = answered result; lent = bytes.new } ≡ write_plan_call words.now bytes.old id }
+{
+    before_writing(words, bytes.len(), id)?;
+    Ok(write_numbers(words, bytes, id) as u64)
+}
+
 // Writes the plan of the words with an id: 16, 24 at a count's word, 28, and 19 where the bytes are too few.
 pub fn write_plan(words: &[u64], bytes: &mut [u8], id: u64) -> Answer
     ensures { record { answer = result; lent = bytes.new } ≡ write_plan_call words.now bytes.old id }
 {
-    let ruled = before_writing(words, bytes.len(), id);
-    let Outcome::Accepted = ruled else {
-        return refusals::answer_of(ruled);
-    };
-    let size = write_numbers(words, bytes, id);
-    Answer::accepted(size as u64)
+    Answer::from(write_record(words, bytes, id))
 }

@@ -1,5 +1,6 @@
 -- `planwriters::before_writing` meets its contract: its tests are the definition's, in their order, and the id and the words are as small and as long as the
 -- numbers that they become.
+use Rattle.std.specs.Prelude.{Result, Ok, Err, ⊤}
 use Prim.Native.Nat.{◌+◌}
 use mathlib.Core.Path.{◌≡◌, refl, sym, ap, ap₂, ◌∙◌}
 use mathlib.Core.Logic.{inl, inr}
@@ -12,8 +13,7 @@ use Rattle.plain.specs.Pick.{pick}
 use Rattle.plain.proofs.Tests.{pick_yes, pick_no, passed, failed, between-true}
 use Rattle.refusals.specs.Numbers.{wrong_length}
 use Rattle.refusals.specs.Refusal.{refusal}
-use Rattle.refusals.specs.declared.Outcome.{Outcome}
-use Rattle.refusals.specs.declared.Outcome.TheVariants.{Accepted, Refused}
+use Rattle.refusals.specs.declared.Refusal.{Refusal}
 use Rattle.planwriters.specs.Writing.{plan_record_of, after_counts, before_writing}
 use Rattle.planwriters.specs.Inner.Parts.{count_of, Whole}
 use Rattle.planwriters.specs.Inner.Fits.{Small, Counted}
@@ -24,16 +24,16 @@ use Rattle.planwriters.proofs.before_writing.Goals.{After-size_of, Else-not-are_
 
 pub returns-then-words-lt-WORDS_MAX : goal.returns-then-words-lt-WORDS_MAX
 unfolding before_writing
-returns-then-words-lt-WORDS_MAX c = pick_yes _ (lt-ltb _ _ c.if-words-lt-WORDS_MAX.true) (ap Refused c.of.ensures)
+returns-then-words-lt-WORDS_MAX c = pick_yes _ (lt-ltb _ _ c.if-words-lt-WORDS_MAX.true) (ap Err c.at.ensures)
 
 pub returns-then-not-is_count : goal.returns-then-not-is_count
 unfolding before_writing
-returns-then-not-is_count c = pick_no _ (le-ltb _ _ c.if-words-lt-WORDS_MAX.false) (pick_no _ (failed c.is_count.ensures c.if-not-is_count.true) (ap Refused c.of-then-not-is_count.ensures))
+returns-then-not-is_count c = pick_no _ (le-ltb _ _ c.if-words-lt-WORDS_MAX.false) (pick_no _ (failed c.is_count.ensures c.if-not-is_count.true) (ap Err c.at-then-not-is_count.ensures))
 
 pub returns-then-not-is_count-2 : goal.returns-then-not-is_count-2
 unfolding before_writing
 returns-then-not-is_count-2 c = pick_no _ (le-ltb _ _ c.if-words-lt-WORDS_MAX.false) (pick_yes _ (passed c.is_count.ensures c.if-not-is_count.false)
-    (pick_no _ (failed c.is_count-2.ensures c.if-not-is_count-2.true) (ap Refused c.of-then-not-is_count-2.ensures)))
+    (pick_no _ (failed c.is_count-2.ensures c.if-not-is_count-2.true) (ap Err c.at-then-not-is_count-2.ensures)))
 
 counted : (c : Else-not-is_count-2) → Counted c.args.words.now
 counted c =
@@ -45,7 +45,7 @@ whole : (c : Else-not-is_count-2) → Whole c.args.words.now
 whole c = counted-whole (counted c)
 
 -- then the rules after them decide
-later : (c : Else-not-is_count-2) {o : Outcome} → o ≡ after_counts c.args.words.now c.args.room c.args.id → o ≡ before_writing c.args.words.now c.args.room c.args.id
+later : (c : Else-not-is_count-2) {o : Result ⊤ Refusal} → o ≡ after_counts c.args.words.now c.args.room c.args.id → o ≡ before_writing c.args.words.now c.args.room c.args.id
 unfolding before_writing
 later c e = pick_no _ (le-ltb _ _ c.if-words-lt-WORDS_MAX.false) (pick_yes _ (passed c.is_count.ensures c.if-not-is_count.false)
     (pick_yes _ (passed c.is_count-2.ensures c.if-not-is_count-2.false) e))
@@ -66,14 +66,14 @@ pub slice_bounds-written-end : goal.slice_bounds-written-end
 slice_bounds-written-end c = sym (length-take-le _ _ (whole (goal.at.slice_bounds-written-end c).Else-not-is_count-2))
 
 pub returns-then-id-ge-VALUE_LIMIT : goal.returns-then-id-ge-VALUE_LIMIT
-returns-then-id-ge-VALUE_LIMIT c = later (goal.at.returns-then-id-ge-VALUE_LIMIT c).Else-not-is_count-2 (pick_no _ (big-number c.args.words.now (whole (goal.at.returns-then-id-ge-VALUE_LIMIT c).Else-not-is_count-2) _ (elim c.then-id-ge-VALUE_LIMIT.branch [ then-id-ge-VALUE_LIMIT-via-then-id-ge-VALUE_LIMIT w ↦ inl w.if-id-ge-VALUE_LIMIT.true | then-id-ge-VALUE_LIMIT-via-else-id-ge-VALUE_LIMIT+then-not-are_small w ↦ inr (failed w.are_small.ensures w.if-not-are_small.true) ])) (ap Refused c.of-then-id-ge-VALUE_LIMIT.ensures))
+returns-then-id-ge-VALUE_LIMIT c = later (goal.at.returns-then-id-ge-VALUE_LIMIT c).Else-not-is_count-2 (pick_no _ (big-number c.args.words.now (whole (goal.at.returns-then-id-ge-VALUE_LIMIT c).Else-not-is_count-2) _ (elim c.then-id-ge-VALUE_LIMIT.branch [ then-id-ge-VALUE_LIMIT-via-then-id-ge-VALUE_LIMIT w ↦ inl w.if-id-ge-VALUE_LIMIT.true | then-id-ge-VALUE_LIMIT-via-else-id-ge-VALUE_LIMIT+then-not-are_small w ↦ inr (failed w.are_small.ensures w.if-not-are_small.true) ])) (ap Err c.at-then-id-ge-VALUE_LIMIT.ensures))
 
 small-words : (c : Else-not-are_small) → (let words = c.args.words.now in Small (take (count_of words) words))
 small-words c = small-values _ (passed c.are_small.ensures c.if-not-are_small.false)
 
 -- the rule of the room decides,
-last : (c : Else-not-are_small) {o : Outcome} → (let a = c.args in
-    o ≡ pick (ltb a.room (length (plan_record_of a.id a.words.now))) (Refused (refusal wrong_length a.room)) Accepted → o ≡ before_writing a.words.now a.room a.id)
+last : (c : Else-not-are_small) {o : Result ⊤ Refusal} → (let a = c.args in
+    o ≡ pick (ltb a.room (length (plan_record_of a.id a.words.now))) (Err (refusal wrong_length a.room)) (Ok tt) → o ≡ before_writing a.words.now a.room a.id)
 last c q = later (goal.at.Else-not-are_small c).Else-not-is_count-2 (pick_yes _ (values-small _ λ i h. (parts-numbers-small c.args.words.now (whole (goal.at.Else-not-are_small c).Else-not-is_count-2) _ c.if-id-ge-VALUE_LIMIT.false (small-words c)).each i) q)
 
 pub size_of-requires : goal.size_of-requires
@@ -88,7 +88,7 @@ pub overflow_add-length_of : goal.overflow_add-length_of
 overflow_add-length_of c = omega (arith, size (goal.at.overflow_add-length_of c).After-size_of, plan-length c.args.id c.args.words.now (counted (goal.at.overflow_add-length_of c).Else-not-is_count-2).segments-high (counted (goal.at.overflow_add-length_of c).Else-not-is_count-2).nodes-high)
 
 pub returns-then-room-length_of : goal.returns-then-room-length_of
-returns-then-room-length_of c = last (goal.at.returns-then-room-length_of c).Else-not-are_small (pick_yes _ (lt-ltb _ _ (rw (size (goal.at.returns-then-room-length_of c).After-size_of) at c.if-room-length_of.true)) (ap Refused c.of-then-room-length_of.ensures))
+returns-then-room-length_of c = last (goal.at.returns-then-room-length_of c).Else-not-are_small (pick_yes _ (lt-ltb _ _ (rw (size (goal.at.returns-then-room-length_of c).After-size_of) at c.if-room-length_of.true)) (ap Err c.at-then-room-length_of.ensures))
 
 pub returns : goal.returns
 returns c = last (goal.at.returns c).Else-not-are_small (pick_no _ (le-ltb _ _ (rw (size (goal.at.returns c).After-size_of) at c.if-room-length_of.false)) refl)
