@@ -7,11 +7,13 @@ use Prim.Native.Nat.{ℕ, ◌+◌, ◌*◌, ◌≤◌, ◌<◌, zero-le}
 use native.Mathlib.Omega.{arith}
 use lib.Dec.{eqb, ltb}
 use lib.ListN.{length}
+use Rattle.std.specs.Prelude.{Result, Ok, Err, MatchResult}
 use Rattle.plain.specs.Pick.{one}
-use Rattle.plain.specs.At.{at}
+use Rattle.plain.specs.At.{at, tab}
 use Rattle.plain.specs.Sums.{total, max_to}
 use Rattle.plain.proofs.Lists.{lt-or-ge, at-tab, at-tab-past}
 use Rattle.plain.proofs.Sums.{sum_same, sum-add, sum_ones, total-most}
+use Rattle.refusals.specs.declared.Refusal.{Refusal}
 use Rattle.tables.specs.declared.TaskTable.{TaskTable}
 use Rattle.tables.specs.Limits.{count_max, cost_max, work_max, million}
 use Rattle.ways.proofs.Totals.{work-le}
@@ -23,11 +25,11 @@ use Rattle.plans.specs.Diagram.{finish, work, path, segment_count, threads_in}
 use Rattle.plans.specs.Shares.{density}
 use Rattle.plans.specs.Calls.{on_task}
 use Rattle.plans.proofs.Table.{plans-accepted}
-use Rattle.buildings.specs.declared.Tally.{Tally}
+use Rattle.buildings.specs.declared.Sums.{Sums}
 use Rattle.buildings.specs.Task.{of_accepted, refused_by, heavy_in, light_in, dense_in}
-use Rattle.buildings.specs.Counts.{numbers_max}
-use Rattle.buildings.specs.Inner.Tally.{task_sums, refused_tally, task_tally, tally_of, sums_of, numbers_of}
-use Rattle.buildings.specs.Inner.Sized.{Sized}
+use Rattle.buildings.specs.Counts.{numbers_max, counts_of}
+use Rattle.buildings.specs.Inner.Tally.{task_sums, tally_of}
+use Rattle.buildings.specs.Inner.Sized.{Sized, Low}
 use Rattle.buildings.proofs.Alone.{own-high, Alone, alone}
 use Rattle.buildings.proofs.Alone.Alone.{turned, taken}
 
@@ -45,14 +47,13 @@ heavy-light t =
     ∙ sum_ones (segment_count t)
 
 -- what an accepted task adds
-task-sized : {t : TaskTable} → Accepted t → Sized 1 (task_sums t)
-task-sized {t} ok =
+task-low : {t : TaskTable} → Accepted t → Low (task_sums t)
+task-low {t} ok =
     let p = plans-accepted ok in
     let few = segments-le t.count (finish t) in
     let most = p.range.count-high in
     let kinds = heavy-light t in
     record {
-      accepted = omega arith;
       nodes = omega arith;
       segments = omega arith;
       work = work-le t.execution t.count _ p.range.run-high most;
@@ -63,14 +64,13 @@ task-sized {t} ok =
 
 module _ (cost : ℕ) (allowed : cost ≤ cost_max) where
   -- what a record adds
-  pub tally-sized : (bytes : List ℕ) → ((tally_of bytes cost).refusal < numbers_max) × Sized 1 (tally_of bytes cost).sums
+  pub tally-low : (bytes : List ℕ) → MatchResult (tally_of bytes cost) Low (λ r. r.number < numbers_max)
   unfolding tally_of
-  tally-sized bytes = by (alone bytes cost allowed)
+  tally-low bytes = by (alone bytes cost allowed)
     where
-      by : Alone bytes cost → (let t = on_task (λ r. refused_tally r.number) task_tally bytes cost in (t.refusal < numbers_max) × Sized 1 t.sums)
-      by (turned r own is) = rw (is Tally (λ r. refused_tally r.number) task_tally)
-          (own-high own, record { accepted = zero-le; nodes = zero-le; segments = zero-le; work = zero-le; heavy = zero-le; light = zero-le; dense = zero-le })
-      by (taken ok is) = rw (is Tally (λ r. refused_tally r.number) task_tally) (omega arith, task-sized ok)
+      by : Alone bytes cost → MatchResult (on_task Err (λ t. Ok (task_sums t)) bytes cost) Low (λ r. r.number < numbers_max)
+      by (turned r own is) = rw (is (Result Sums Refusal) Err (λ t. Ok (task_sums t))) (own-high own)
+      by (taken ok is) = rw (is (Result Sums Refusal) Err (λ t. Ok (task_sums t))) (task-low ok)
 
   -- what is at most so much of every accepted task is so of every record
   accepted-most : (f : TaskTable → ℕ) (most : ℕ) → ((t : TaskTable) → Accepted t → f t ≤ most) → (bytes : List ℕ) → of_accepted f cost bytes ≤ most
@@ -92,22 +92,23 @@ module _ (cost : ℕ) (allowed : cost ≤ cost_max) where
     summed : (f : TaskTable → ℕ) (most : ℕ) → ((t : TaskTable) → Accepted t → f t ≤ most) → total (of_accepted f cost) records ≤ length records * most
     summed f most h = total-most (of_accepted f cost) most (accepted-most f most h) records
 
-    pub sums-sized : Sized (length records) (sums_of records cost)
-    unfolding sums_of
-    sums-sized = record {
-      accepted = omega (arith, summed (λ t. 1) 1 (λ t ok. omega arith));
-      nodes = summed (λ t. t.count) count_max (λ t ok. omega (arith, (task-sized ok).nodes));
-      segments = summed segment_count count_max (λ t ok. omega (arith, (task-sized ok).segments));
-      work = summed work work_max (λ t ok. omega (arith, (task-sized ok).work));
-      heavy = summed heavy_in count_max (λ t ok. omega (arith, (task-sized ok).heavy));
-      light = summed light_in count_max (λ t ok. omega (arith, (task-sized ok).light));
-      dense = omega (arith, summed dense_in 1 (λ t ok. (task-sized ok).dense));
-    }
-
     -- a count by number
-    pub number-most : (k : ℕ) → at (numbers_of records cost) k ≤ length records
-    unfolding numbers_of
+    number-most : (k : ℕ) → at (tab numbers_max (λ k. total (refused_by k cost) records)) k ≤ length records
     number-most k = ⊎_elim
         (λ (h : k < numbers_max). rw (at-tab numbers_max (λ k. total (refused_by k cost) records) k h) (omega (arith, total-most (refused_by k cost) 1 (refused-most k) records)))
         (λ (h : numbers_max ≤ k). rw (at-tab-past numbers_max (λ k. total (refused_by k cost) records) k h) zero-le)
         (lt-or-ge k numbers_max)
+
+    pub counts-sized : Sized (length records) (counts_of records cost)
+    unfolding counts_of
+    counts-sized = record {
+      records = omega arith;
+      accepted = omega (arith, summed (λ t. 1) 1 (λ t ok. omega arith));
+      refused = number-most;
+      nodes = summed (λ t. t.count) count_max (λ t ok. (task-low ok).nodes);
+      segments = summed segment_count count_max (λ t ok. (task-low ok).segments);
+      work = summed work work_max (λ t ok. (task-low ok).work);
+      heavy = summed heavy_in count_max (λ t ok. (task-low ok).heavy);
+      light = summed light_in count_max (λ t ok. (task-low ok).light);
+      dense = omega (arith, summed dense_in 1 (λ t ok. (task-low ok).dense));
+    }

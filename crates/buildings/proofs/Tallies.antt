@@ -4,23 +4,24 @@ use mathlib.Core.List.{List, [], ◌∷◌, ◌++◌}
 use Prim.Native.Nat.{ℕ, zero, suc, ◌+◌, ◌≤◌, ◌<◌}
 use native.Mathlib.Omega.{arith}
 use lib.Dec.{eqb}
-use lib.ListN.{set, replicate}
+use lib.ListN.{set, length-append}
+use Rattle.std.specs.Prelude.{Result, Ok, Err}
 use borrow.Author.Tests.{eq-eqb, ne_eqb}
 use Rattle.plain.specs.Pick.{one}
 use Rattle.plain.specs.At.{at, tab}
 use Rattle.plain.specs.Sums.{total}
 use Rattle.plain.proofs.Lists.{at-tab}
 use Rattle.plain.proofs.Sums.{total-behind}
+use Rattle.refusals.specs.declared.Refusal.{Refusal}
 use Rattle.tables.specs.declared.TaskTable.{TaskTable}
 use Rattle.tables.specs.Limits.{cost_max}
 use Rattle.plans.specs.Diagram.{work, segment_count}
-use Rattle.plans.specs.Calls.{task_of, on_task}
+use Rattle.plans.specs.Calls.{on_task}
 use Rattle.buildings.specs.declared.Sums.{Sums}
-use Rattle.buildings.specs.declared.Tally.{Tally}
 use Rattle.buildings.specs.Task.{of_accepted, refused_by, heavy_in, light_in, dense_in}
-use Rattle.buildings.specs.Counts.{numbers_max}
-use Rattle.buildings.specs.Inner.Tally.{no_sums, task_sums, refused_tally, task_tally, tally_of, plus, with_number, sums_of, numbers_of}
-use Rattle.buildings.proofs.Alone.{own-low, own-high, Alone, alone}
+use Rattle.buildings.specs.Counts.{numbers_max, counts_of, no_counts}
+use Rattle.buildings.specs.Inner.Tally.{task_sums, tally_of, with_tally}
+use Rattle.buildings.proofs.Alone.{own-high, Alone, alone}
 use Rattle.buildings.proofs.Alone.Alone.{turned, taken}
 
 -- equal entries, equal lists; and one entry that is another
@@ -36,13 +37,9 @@ tab-set (suc n) f g zero h e = rw (tab-same n (λ k. f (suc k)) (λ k. g (suc k)
 tab-set (suc n) f g (suc i) h e = rw (e 0 (λ q. omega arith), tab-set n (λ k. f (suc k)) (λ k. g (suc k)) i (omega arith) (λ k p. e (suc k) (λ q. p (omega arith))))
 
 -- no records
-pub numbers-none : (cost : ℕ) → replicate numbers_max 0 ≡ numbers_of [] cost
-unfolding numbers_of total tab
-numbers-none cost = refl
-
-pub sums_none : (cost : ℕ) → no_sums ≡ sums_of [] cost
-unfolding sums_of total
-sums_none cost = refl
+pub counts_none : (cost : ℕ) → no_counts ≡ counts_of [] cost
+unfolding counts_of total tab
+counts_none cost = refl
 
 module _ (records : List (List ℕ)) (bytes : List ℕ) (cost : ℕ) where
   -- the counts by number before the record, and with it
@@ -64,28 +61,38 @@ module _ (records : List (List ℕ)) (bytes : List ℕ) (cost : ℕ) where
   number-none is = tab-same numbers_max by_number with_it (λ k. total-behind (refused_by k cost) records bytes ∙ rw (is k) (omega arith))
 
   -- each sum is that of the records before, with what the record adds
-  sums_by : (more : Sums) → of_accepted (λ t. 1) cost bytes ≡ more.accepted → of_accepted (λ t. t.count) cost bytes ≡ more.nodes → of_accepted segment_count cost bytes ≡ more.segments →
-      of_accepted work cost bytes ≡ more.work → of_accepted heavy_in cost bytes ≡ more.heavy → of_accepted light_in cost bytes ≡ more.light → of_accepted dense_in cost bytes ≡ more.dense →
-      sums_of (records ++ bytes ∷ []) cost ≡ plus (sums_of records cost) more
-  unfolding sums_of
-  sums_by more a n s w h l d =
-      let behind : (f : TaskTable → ℕ) → total (of_accepted f cost) (records ++ bytes ∷ []) ≡ total (of_accepted f cost) records + of_accepted f cost bytes = λ f. total-behind (of_accepted f cost) records bytes in
-      rw (behind (λ t. 1), behind (λ t. t.count), behind segment_count, behind work, behind heavy_in, behind light_in, behind dense_in, a, n, s, w, h, l, d)
+  more : (f : TaskTable → ℕ) {n : ℕ} → of_accepted f cost bytes ≡ n → total (of_accepted f cost) (records ++ bytes ∷ []) ≡ total (of_accepted f cost) records + n
+  more f e = total-behind (of_accepted f cost) records bytes ∙ ap (λ (n : ℕ). total (of_accepted f cost) records + n) e
 
-  module _ (allowed : cost ≤ cost_max) where
-    pub sums-more : sums_of (records ++ bytes ∷ []) cost ≡ plus (sums_of records cost) (tally_of bytes cost).sums
-    unfolding tally_of
-    sums-more = by (alone bytes cost allowed)
-      where
-        by : Alone bytes cost → sums_of (records ++ bytes ∷ []) cost ≡ plus (sums_of records cost) (on_task (λ r. refused_tally r.number) task_tally bytes cost).sums
-        by (turned r own is) = rw (is Tally (λ r. refused_tally r.number) task_tally) (sums_by no_sums (is ℕ _ _) (is ℕ _ _) (is ℕ _ _) (is ℕ _ _) (is ℕ _ _) (is ℕ _ _) (is ℕ _ _))
-        by (taken ok is) = rw (is Tally (λ r. refused_tally r.number) task_tally)
-            (sums_by (task_sums (task_of bytes cost)) (is ℕ _ _) (is ℕ _ _) (is ℕ _ _) (is ℕ _ _) (is ℕ _ _) (is ℕ _ _) (is ℕ _ _))
+  none_more : (f : TaskTable → ℕ) → of_accepted f cost bytes ≡ 0 → total (of_accepted f cost) (records ++ bytes ∷ []) ≡ total (of_accepted f cost) records
+  none_more f e = more f e ∙ omega arith
 
-    pub numbers_more : numbers_of (records ++ bytes ∷ []) cost ≡ with_number (numbers_of records cost) (tally_of bytes cost).refusal
-    unfolding numbers_of tally_of
-    numbers_more = by (alone bytes cost allowed)
-      where
-        by : Alone bytes cost → tab numbers_max with_it ≡ with_number (tab numbers_max by_number) (on_task (λ r. refused_tally r.number) task_tally bytes cost).refusal
-        by (turned r own is) = rw (is Tally (λ r. refused_tally r.number) task_tally, ne_eqb r.number 0 (λ z. omega (arith, own-low own))) (number_more r.number (own-high own) (λ k. is ℕ _ _))
-        by (taken ok is) = rw (is Tally (λ r. refused_tally r.number) task_tally) (number-none (λ k. is ℕ _ _))
+  pub counts-more : cost ≤ cost_max → counts_of (records ++ bytes ∷ []) cost ≡ with_tally (counts_of records cost) (tally_of bytes cost)
+  unfolding counts_of tally_of
+  counts-more allowed = by (alone bytes cost allowed)
+    where
+      by : Alone bytes cost → counts_of (records ++ bytes ∷ []) cost ≡ with_tally (counts_of records cost) (on_task Err (λ t. Ok (task_sums t)) bytes cost)
+      by (turned r own is) = rw (
+        is (Result Sums Refusal) Err (λ t. Ok (task_sums t)),
+        length-append records (bytes ∷ []),
+        number_more r.number (own-high own) (λ k. is ℕ _ _),
+        none_more (λ t. 1) (is ℕ _ _),
+        none_more (λ t. t.count) (is ℕ _ _),
+        none_more segment_count (is ℕ _ _),
+        none_more work (is ℕ _ _),
+        none_more heavy_in (is ℕ _ _),
+        none_more light_in (is ℕ _ _),
+        none_more dense_in (is ℕ _ _),
+      )
+      by (taken ok is) = rw (
+        is (Result Sums Refusal) Err (λ t. Ok (task_sums t)),
+        length-append records (bytes ∷ []),
+        number-none (λ k. is ℕ _ _),
+        more (λ t. 1) (is ℕ _ _),
+        more (λ t. t.count) (is ℕ _ _),
+        more segment_count (is ℕ _ _),
+        more work (is ℕ _ _),
+        more heavy_in (is ℕ _ _),
+        more light_in (is ℕ _ _),
+        more dense_in (is ℕ _ _),
+      )

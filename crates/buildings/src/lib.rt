@@ -1,21 +1,17 @@
 // The counts of a whole building's file: each of its records planned alone.
 #![tactic(auto)]
 
-ghost use Rattle.std.specs.Prelude.{◌≡◌, ℕ, ◌≤◌, ◌<◌, ltb, length};
-ghost use Rattle.plain.specs.Pick.{one};
-ghost use Rattle.plain.specs.At.{at};
-ghost use Rattle.refusals.specs.Answer.{accepted, refused};
-ghost use Rattle.tables.specs.Limits.{million, cost_max};
+ghost use Rattle.std.specs.Prelude.{◌≡◌, ℕ, ◌≤◌, ◌<◌, Result, Ok, Err, MatchResult, length};
+ghost use Rattle.refusals.specs.declared.Refusal.{Refusal};
+ghost use Rattle.tables.specs.Limits.{cost_max};
 ghost use Rattle.tables.specs.Cost.{costed};
 ghost use Rattle.tables.specs.Inner.Plannable.{Plannable};
-ghost use Rattle.records.specs.Step.{and_then};
 ghost use Rattle.plans.specs.Words.{words_max};
 ghost use Rattle.plans.specs.Calls.{on_table};
-ghost use Rattle.files.specs.File.{walk};
-ghost use Rattle.buildings.specs.Counts.{numbers_max};
-ghost use Rattle.buildings.specs.Building.{file_max, before_walking, counted, building_call};
-ghost use Rattle.buildings.specs.Inner.Tally.{no_sums, task_sums, refused_tally, task_tally, tally_of, plus, with_number, assembled};
-ghost use Rattle.buildings.specs.Inner.Sized.{Sized};
+ghost use Rattle.buildings.specs.Counts.{numbers_max, no_counts};
+ghost use Rattle.buildings.specs.Building.{file_max, before_walking, building_call};
+ghost use Rattle.buildings.specs.Inner.Tally.{task_sums, tally_of, with_tally, told};
+ghost use Rattle.buildings.specs.Inner.Sized.{Sized, Low};
 ghost use Rattle.buildings.specs.Inner.PlanOf.{PlanOf};
 
 use plans::Planning;
@@ -31,7 +27,7 @@ pub const NUMBERS: usize = 29;
 
 // What is counted of a file's records. refused[k] counts those that planning refuses by k; all behind it count accepted ones only.
 #[repr(C)]
-#[derive(Clone, Copy)]
+#[derive(Clone, Copy, Default)]
 pub struct Counts {
     pub records: u64,
     pub accepted: u64,
@@ -52,10 +48,9 @@ pub struct Building {
     pub counts: Counts,
 }
 
-// What is counted of accepted records.
+// What an accepted record adds.
 #[derive(Clone, Copy)]
 pub struct Sums {
-    pub accepted: u64,
     pub nodes: u64,
     pub segments: u64,
     pub work: u64,
@@ -64,82 +59,26 @@ pub struct Sums {
     pub dense: u64,
 }
 
-// What one record adds: the number that refuses it, else 0 and its sums.
-#[derive(Clone, Copy)]
-pub struct Tally {
-    pub refusal: u64,
-    pub sums: Sums,
-}
-
-impl Sums {
-    fn none() -> Self
-        ensures { result ≡ no_sums }
-    {
-        Self {
-            accepted: 0,
-            nodes: 0,
-            segments: 0,
-            work: 0,
-            heavy: 0,
-            light: 0,
-            dense: 0,
-        }
-    }
-
-    fn plus(self, more: Sums) -> Self
-        requires { (n : ℕ) × (n < file_max) × Sized n self × Sized 1 more }
-        ensures { result ≡ plus self more }
-    {
-        Self {
-            accepted: self.accepted + more.accepted,
-            nodes: self.nodes + more.nodes,
-            segments: self.segments + more.segments,
-            work: self.work + more.work,
-            heavy: self.heavy + more.heavy,
-            light: self.light + more.light,
-            dense: self.dense + more.dense,
-        }
-    }
-}
-
-impl Tally {
-    // A record that is refused adds nothing else.
-    fn refused(number: u64) -> Self
-        ensures { result ≡ refused_tally number }
-    {
-        Self {
-            refusal: number,
-            sums: Sums::none(),
-        }
-    }
-}
-
 impl Counts {
-    fn of(records: u64, refused: [u64; NUMBERS], sums: Sums) -> Self
-        ensures { result ≡ assembled records refused sums }
+    // One record more, that is refused or adds so much.
+    fn add(&mut self, tally: Result<Sums, Refusal>)
+        requires { (n : ℕ) × (n < file_max) × Sized n self.old × MatchResult tally Low (λ r. r.number < numbers_max) }
+        ensures { self.new ≡ with_tally self.old tally }
     {
-        Self {
-            records,
-            accepted: sums.accepted,
-            refused,
-            nodes: sums.nodes,
-            segments: sums.segments,
-            work: sums.work,
-            heavy: sums.heavy,
-            light: sums.light,
-            dense: sums.dense,
+        self.records += 1;
+        match tally {
+            Ok(sums) => {
+                self.accepted += 1;
+                self.nodes += sums.nodes;
+                self.segments += sums.segments;
+                self.work += sums.work;
+                self.heavy += sums.heavy;
+                self.light += sums.light;
+                self.dense += sums.dense;
+            }
+            Err(refusal) => self.refused[refusal.number as usize] += 1,
         }
     }
-}
-
-// Whether a density is above one.
-fn above_one(density: u64) -> u64
-    ensures { result ≡ one (ltb million density) }
-{
-    if tables::MILLION < density {
-        return 1;
-    }
-    0
 }
 
 // What an accepted task adds, read off its plan's words.
@@ -150,96 +89,40 @@ fn sums_of(words: &[u64], period: u64, planning: Planning) -> Sums
     let s = words[1] as usize;
     let n = words[2] as usize;
     let kinds = shares::kinds_of(words, s, period, planning.work, planning.path);
-    let from = 3 + 3 * s;
-    let figures = shares::figures_of(&words[from..], n);
+    let figures = shares::figures_of(&words[3 + 3 * s..], n);
     Sums {
-        accepted: 1,
         nodes: n as u64,
         segments: s as u64,
         work: planning.work,
         heavy: kinds.heavies as u64,
         light: (s - kinds.heavies) as u64,
-        dense: above_one(figures.largest),
+        dense: u64::from(tables::MILLION < figures.largest),
     }
 }
 
 // What a table that was read adds, with the cost; its plan stays in the words.
-fn tally_table(words: &mut [u64], table: TaskTable, cost: u64) -> Tally
+fn tally_table(words: &mut [u64], table: TaskTable, cost: u64) -> Result<Sums, Refusal>
     requires { Plannable (costed table cost) × (words_max ≤ length words.old) }
-    ensures { result ≡ on_table (λ r. refused_tally r.number) task_tally (costed table cost) }
+    ensures { result ≡ on_table Err (λ t. Ok (task_sums t)) (costed table cost) }
 {
     let planning = plans::plan_table(words, table, cost, Answer::accepted(0));
     let answer = planning.answer;
     if answer.refusal != 0 {
-        return Tally::refused(answer.refusal);
+        return Err(Refusal::told_by(answer));
     }
-    Tally {
-        refusal: 0,
-        sums: sums_of(words, table.period, planning),
-    }
+    Ok(sums_of(words, table.period, planning))
 }
 
 // What a record adds, planned alone.
-fn tally_of(bytes: &[u8], words: &mut [u64], cost: u64) -> Tally
+fn tally_of(bytes: &[u8], words: &mut [u64], cost: u64) -> Result<Sums, Refusal>
     requires { (cost ≤ cost_max) × (words_max ≤ length words.old) }
     ensures { result ≡ tally_of bytes.now cost }
 {
     let reading = records::read_record(bytes);
-    let outcome = reading.outcome;
-    if let Outcome::Refused(refusal) = outcome {
-        return Tally::refused(refusal.number);
+    if let Outcome::Refused(refusal) = reading.outcome {
+        return Err(refusal);
     }
     tally_table(words, reading.table, cost)
-}
-
-// One record more that is refused by this number; 0 is none.
-fn count_number(refused: &mut [u64; NUMBERS], number: usize)
-    requires { (number < numbers_max) × ((k : ℕ) → at refused.old k < file_max) }
-    ensures { refused.new ≡ with_number refused.old number }
-{
-    if number != 0 {
-        refused[number] += 1;
-    }
-}
-
-// A walk that was ended: the refusal, beside the counts of the records before it.
-fn stopped(step: Step, counts: Counts) -> Building
-    ensures { result ≡ record { answer = and_then refused step (λ _ _. accepted 0); counts = counts } }
-{
-    let answer = match step {
-        Step::Read { value: _, next: _ } => Answer::accepted(0),
-        Step::Refused(refusal) => Answer::refused(refusal),
-    };
-    Building { answer, counts }
-}
-
-// The counts of the records of a file, up to its end or to what ends the walk.
-fn count_records(file: &[u8], cost: u64) -> Building
-    requires { (cost ≤ cost_max) × (length file.now ≤ file_max) }
-    ensures { result ≡ counted (walk file.now) cost }
-{
-    let mut words = [0u64; plans::WORDS_MAX];
-    let mut records: u64 = 0;
-    let mut refused = [0u64; NUMBERS];
-    let mut sums = Sums::none();
-    let mut at: usize = 0;
-    while at < file.len() {
-        let step = files::record_at(file, at);
-        let Step::Read { value, next } = step else {
-            return stopped(step, Counts::of(records, refused, sums));
-        };
-        let size = value as usize;
-        let tally = tally_of(files::part_of(file, next, size), &mut words, cost);
-        count_number(&mut refused, tally.refusal as usize);
-        let more = sums.plus(tally.sums);
-        sums = more;
-        records += 1;
-        at = next + size;
-    }
-    Building {
-        answer: Answer::accepted(records),
-        counts: Counts::of(records, refused, sums),
-    }
 }
 
 // Whether a file is to be walked at all: 26 where the cost is too high, 27 where the file is too long.
@@ -255,16 +138,37 @@ fn before_walking(size: usize, cost: u64) -> Outcome
     Outcome::Accepted
 }
 
+// Counts the records of a file, up to its end or to the refusal that ends the walk, and says how many they are.
+fn count_records(file: &[u8], cost: u64, counts: &mut Counts) -> Result<u64, Refusal>
+    requires { counts.old ≡ no_counts }
+    ensures { record { answer = told result; counts = counts.new } ≡ building_call file.now cost }
+{
+    if let Outcome::Refused(refusal) = before_walking(file.len(), cost) {
+        return Err(refusal);
+    }
+    let mut words = [0u64; plans::WORDS_MAX];
+    let mut at: usize = 0;
+    // No iterator: the walk ends at its first refusal, which tells its place in the whole file.
+    while at < file.len() {
+        let (value, next) = match files::record_at(file, at) {
+            Step::Read { value, next } => (value, next),
+            Step::Refused(refusal) => return Err(refusal),
+        };
+        let size = value as usize;
+        counts.add(tally_of(files::part_of(file, next, size), &mut words, cost));
+        at = next + size;
+    }
+    Ok(counts.records)
+}
+
 // Plans each record of a file alone, with the cost, and counts.
 pub fn count_building(file: &[u8], cost: u64) -> Building
     ensures { result ≡ building_call file.now cost }
 {
-    let first = before_walking(file.len(), cost);
-    let Outcome::Accepted = first else {
-        return Building {
-            answer: refusals::answer_of(first),
-            counts: Counts::of(0, [0; NUMBERS], Sums::none()),
-        };
+    let mut counts = Counts::default();
+    let answer = match count_records(file, cost, &mut counts) {
+        Ok(records) => Answer::accepted(records),
+        Err(refusal) => Answer::refused(refusal),
     };
-    count_records(file, cost)
+    Building { answer, counts }
 }

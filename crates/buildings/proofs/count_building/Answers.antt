@@ -1,25 +1,14 @@
--- `buildings::count_building` meets its contract: 26 and 27 first, and then the walk, of a file that is short enough and with a cost in range.
-use mathlib.Core.Path.{◌≡◌, sym, ap, ◌∙◌}
-use lib.ListN.{length}
-use Rattle.refusals.specs.declared.Outcome.TheVariants.{Accepted}
-use Rattle.refusals.specs.Answer.{answer_of}
-use Rattle.buildings.specs.Building.{before_walking}
-use Rattle.buildings.proofs.Cases.{ready, call-refused, call-walked}
+-- `buildings::count_building` meets its contract: the counts are 0 at first.
+use Rattle.std.proofs.Common.{◌≡◌, ℕ, ◌<◌, List, ◌∙◌, sym, get_or, length, replicate}
+use Rattle.std.proofs.lemmas.Grind.{same_number_lists}
+use Rattle.std.proofs.lemmas.List.{length-replicate, get_or-replicate}
 use Rattle.buildings.proofs.count_building.Goals as goal
-use Rattle.buildings.proofs.count_building.Goals.{In-Accepted}
 
-pub returns-in_default : goal.returns-in_default
-returns-in_default c =
-    let a = c.args in
-    let told = c.in_default.is in
-    rw (c.answer_of.ensures ∙ ap answer_of told, c.of.ensures, c.none.ensures) (sym (call-refused a.file.now a.cost (sym c.before_walking-first.ensures ∙ told)))
-
--- neither 26 nor 27
-first : (c : In-Accepted) → (let a = c.args in before_walking (length a.file.now) a.cost ≡ Accepted)
-first c = sym c.before_walking-first.ensures ∙ c.in-Accepted.is
+-- a list of n zeros
+zeros : (n : ℕ) (xs : List ℕ) → length xs ≡ n → ((k : ℕ) → k < n → get_or xs k 0 ≡ 0) → xs ≡ replicate n 0
+zeros n xs long at = same_number_lists xs (replicate n 0) (long ∙ sym (length-replicate n 0)) (λ k h. let l = rw long at h in at k l ∙ sym (get_or-replicate n k 0 0 l))
 
 pub count_records-requires : goal.count_records-requires
-count_records-requires c = ready _ _ (first (goal.at.count_records-requires c).In-Accepted)
-
-pub returns : goal.returns
-returns c = c.count_records.ensures ∙ sym (call-walked _ _ (first (goal.at.returns c).In-Accepted))
+count_records-requires c =
+    let (r, (a, (z, (n, (s, (w, (h, (l, d)))))))) = c.default-counts.ensures in
+    rw (r, a, zeros 29 c.default-counts.result.refused z.long (λ k b. z.at k 0 b), n, s, w, h, l, d)

@@ -1,38 +1,43 @@
--- `buildings::count_records` meets its contract: each turn adds the tally of the record that stands at the place, and the walk is left where it ends.
-use mathlib.Core.Path.{◌≡◌, sym, ap, ap₂, ◌∙◌}
+-- `buildings::count_records` meets its contract: 26 and 27 first; then each turn adds the tally of the record that stands at the place, and the walk is left where it ends.
+use mathlib.Core.Path.{◌≡◌, sym, ap, ◌∙◌}
 use mathlib.Core.List.{List}
 use Prim.Native.Nat.{ℕ, ◌+◌, ◌≤◌, ◌<◌}
 use native.Mathlib.Omega.{arith}
 use lib.ListN.{length}
-use Rattle.refusals.specs.declared.Answer.{Answer}
+use Rattle.refusals.specs.declared.Outcome.TheVariants.{Accepted}
+use Rattle.tables.specs.Limits.{cost_max}
 use Rattle.records.specs.declared.Step.TheVariants.{Read}
-use Rattle.records.proofs.Cases.{then-refused}
 use Rattle.files.specs.File.{record_at, part_of}
-use Rattle.files.proofs.Walked.{laid-past, laid_more}
-use Rattle.buildings.specs.declared.Counts.{Counts}
-use Rattle.buildings.specs.declared.Tally.{Tally}
-use Rattle.buildings.specs.Inner.Tally.{tally_of, plus, with_number}
-use Rattle.buildings.proofs.Sized.{tally-sized}
-use Rattle.buildings.proofs.Walked.{counted_none, counted-more, counted-few, counted-sized, counted-most, counted-whole, counted-stopped}
+use Rattle.files.proofs.Walked.{laid_more}
+use Rattle.buildings.specs.Building.{file_max, before_walking}
+use Rattle.buildings.specs.Inner.Tally.{tally_of, with_tally}
+use Rattle.buildings.proofs.Cases.{ready, call-refused, call-walked}
+use Rattle.buildings.proofs.Sized.{tally-low}
+use Rattle.buildings.proofs.Walked.{counted_none, counted-more, counted-few, counted-sized, counted-whole, counted-stopped}
 use Rattle.buildings.proofs.count_records.Goals as goal
-use Rattle.buildings.proofs.count_records.Goals.{After-tally_of-tally, In-loop-at, In-Read}
+use Rattle.buildings.proofs.count_records.Goals.{After-tally_of, In-loop-at, In-Read, In_default}
+
+pub returns-in-Refused : goal.returns-in-Refused
+returns-in-Refused c = rw c.requires (sym (call-refused c.args.file.now c.args.cost (sym c.before_walking.ensures ∙ c.in-Refused.is)))
+
+-- neither 26 nor 27
+first : (c : In_default) → (before_walking (length c.args.file.now) c.args.cost ≡ Accepted)
+first c = sym c.before_walking.ensures ∙ c.in_default.is
+
+limits : (c : In_default) → (c.args.cost ≤ cost_max) × (length c.args.file.now ≤ file_max)
+limits c = ready _ _ (first c)
 
 pub loop-at-init : goal.loop-at-init
-loop-at-init c = let a = c.args in counted_none a.file.now a.cost (omega arith) c.none-sums.ensures
+loop-at-init c = counted_none c.args.file.now c.args.cost (omega arith) c.requires
 
-pub record_at-step-requires : goal.record_at-step-requires
-record_at-step-requires c = (laid-past _ c.loop-at.invariant.laid).inside
-
-pub returns-in_default : goal.returns-in_default
-returns-in_default c =
-    let here = sym c.record_at-step.ensures ∙ c.in_default.is in
-    c.stopped.ensures
-    ∙ ap₂ (λ (x : Answer) (y : Counts). record { answer = x; counts = y }) (then-refused _ _ _ _ c.in_default.is) c.of.ensures
-    ∙ counted-stopped _ _ c.loop-at.invariant c.loop-at-test.true here
+pub returns-in-Refused-record_at : goal.returns-in-Refused-record_at
+returns-in-Refused-record_at c =
+    counted-stopped _ _ c.loop-at.invariant c.loop-at-test.true (sym c.record_at.ensures ∙ c.in-Refused-record_at.is)
+    ∙ sym (call-walked _ _ (first (goal.at.returns-in-Refused-record_at c).In_default))
 
 -- a record stands at the place
 here : (c : In-Read) → (record_at c.args.file.now c.loop-at.at ≡ Read c.in-Read.value c.in-Read.next)
-here c = sym c.record_at-step.ensures ∙ c.in-Read.is
+here c = sym c.record_at.ensures ∙ c.in-Read.is
 
 inside : (c : In-Read) → (c.in-Read.next + c.in-Read.value ≤ length c.args.file.now) × (c.loop-at.at < c.in-Read.next + c.in-Read.value)
 inside c = let m = laid_more _ c.loop-at.invariant.laid (here c) in (m.0, m.1)
@@ -40,40 +45,28 @@ inside c = let m = laid_more _ c.loop-at.invariant.laid (here c) in (m.0, m.1)
 pub part_of-requires : goal.part_of-requires
 part_of-requires c = (inside (goal.at.part_of-requires c).In-Read).0
 
-pub tally_of-tally-requires : goal.tally_of-tally-requires
-tally_of-tally-requires c = (c.requires.0, omega (arith, c.loop-at.invariant.room))
-
--- few records lie before the place
-few : (c : In-loop-at) → c.loop-at.records < 1_048_576
-few c = counted-few _ _ c.loop-at.invariant c.requires.1 c.loop-at-test.true
+pub tally_of-requires : goal.tally_of-requires
+tally_of-requires c = ((limits (goal.at.tally_of-requires c).In_default).0, omega (arith, c.loop-at.invariant.room))
 
 -- what the record adds
-tally : (c : After-tally_of-tally) → (c.tally_of-tally.result ≡ tally_of (part_of c.args.file.now c.in-Read.next c.in-Read.value) c.args.cost)
-tally c = c.tally_of-tally.ensures ∙ ap (λ (x : List ℕ). tally_of x c.args.cost) c.part_of.ensures
+tally : (c : After-tally_of) → (c.tally_of.result ≡ tally_of (part_of c.args.file.now c.in-Read.next c.in-Read.value) c.args.cost)
+tally c = c.tally_of.ensures ∙ ap (λ (x : List ℕ). tally_of x c.args.cost) c.part_of.ensures
 
-pub count_number-requires : goal.count_number-requires
-count_number-requires c =
-    (rw c.tally_of-tally.ensures (tally-sized _ c.requires.0 _).0, λ k. omega (arith, counted-most _ _ c.loop-at.invariant c.requires.0 k, few (goal.at.count_number-requires c).In-loop-at))
-
-pub plus-more-requires : goal.plus-more-requires
-plus-more-requires c =
-    (c.loop-at.records, few (goal.at.plus-more-requires c).In-loop-at, counted-sized _ _ c.loop-at.invariant c.requires.0, rw c.tally_of-tally.ensures (tally-sized _ c.requires.0 _).1)
-
-pub overflow_add-records : goal.overflow_add-records
-overflow_add-records c = omega (arith, few (goal.at.overflow_add-records c).In-loop-at)
+pub add-requires : goal.add-requires
+add-requires c =
+    let l = limits (goal.at.add-requires c).In_default in
+    (length c.loop-at.invariant.before, counted-few _ _ c.loop-at.invariant l.1 c.loop-at-test.true, counted-sized _ _ c.loop-at.invariant l.0, rw c.tally_of.ensures (tally-low _ l.0 _))
 
 pub overflow_add-at : goal.overflow_add-at
-overflow_add-at c = omega (arith, inside (goal.at.overflow_add-at c).In-Read, c.requires.1)
+overflow_add-at c = omega (arith, inside (goal.at.overflow_add-at c).In-Read, (limits (goal.at.overflow_add-at c).In_default).1)
 
 pub loop-at-smaller : goal.loop-at-smaller
 loop-at-smaller c = omega (arith, inside (goal.at.loop-at-smaller c).In-Read)
 
 pub loop-at-preserved : goal.loop-at-preserved
 loop-at-preserved c =
-    counted-more _ _ c.loop-at.invariant c.requires.0 (here (goal.at.loop-at-preserved c).In-Read) (c.tally_of-tally.auto.words ∙ c.loop-at.invariant.room)
-    (c.count_number.ensures ∙ ap (λ (x : Tally). with_number c.loop-at.refused x.refusal) (tally (goal.at.loop-at-preserved c).After-tally_of-tally))
-    (c.plus-more.ensures ∙ ap (λ (x : Tally). plus c.loop-at.sums x.sums) (tally (goal.at.loop-at-preserved c).After-tally_of-tally))
+    counted-more _ _ c.loop-at.invariant (limits (goal.at.loop-at-preserved c).In_default).0 (here (goal.at.loop-at-preserved c).In-Read) (c.tally_of.auto.words ∙ c.loop-at.invariant.room)
+    (c.add.ensures ∙ ap (with_tally c.loop-at.counts) (tally (goal.at.loop-at-preserved c).After-tally_of))
 
 pub returns : goal.returns
-returns c =
-    ap₂ (λ (x : Answer) (y : Counts). record { answer = x; counts = y }) c.accepted.ensures c.of-2.ensures ∙ counted-whole _ _ c.loop-at.invariant c.loop-at-test.false
+returns c = counted-whole _ _ c.loop-at.invariant c.loop-at-test.false ∙ sym (call-walked _ _ (first (goal.at.returns c).In_default))

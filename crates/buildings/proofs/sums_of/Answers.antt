@@ -1,8 +1,13 @@
 -- `buildings::sums_of` meets its contract: what it reads off the words is the table's own.
-use mathlib.Core.Path.{◌≡◌, ap, ◌∙◌}
+use mathlib.Core.Path.{◌≡◌, refl, ap, ◌∙◌}
+use mathlib.Core.Bool.{Bool, true, false}
 use Prim.Native.Nat.{◌-◌, ◌≤◌}
 use native.Mathlib.Omega.{arith}
+use lib.Dec.{ltb}
 use lib.ListN.{length}
+use Rattle.std.specs.Int.{from_bool}
+use Rattle.plain.specs.Pick.{one}
+use Rattle.tables.specs.Limits.{million}
 use Rattle.plain.specs.At.{at}
 use Rattle.plain.specs.Sums.{max_to}
 use Rattle.tables.specs.declared.TaskTable.{TaskTable}
@@ -35,14 +40,14 @@ bounds-words-2 c = omega (arith, long (goal.at.bounds-words-2 c).Start)
 pub kinds_of-kinds-requires : goal.kinds_of-kinds-requires
 kinds_of-kinds-requires c = deal-in c.requires.1
 
-pub overflow_mul-from : goal.overflow_mul-from
-overflow_mul-from c = let f = few (goal.at.overflow_mul-from c).Start in omega arith
+pub overflow_mul-s : goal.overflow_mul-s
+overflow_mul-s c = let f = few (goal.at.overflow_mul-s c).Start in omega arith
 
-pub overflow_add-from : goal.overflow_add-from
-overflow_add-from c = let f = few (goal.at.overflow_add-from c).Start in omega arith
+pub overflow_add-s : goal.overflow_add-s
+overflow_add-s c = let f = few (goal.at.overflow_add-s c).Start in omega arith
 
-pub offset_bounds-words-from : goal.offset_bounds-words-from
-offset_bounds-words-from c = let f = few (goal.at.offset_bounds-words-from c).Start in let l = long (goal.at.offset_bounds-words-from c).Start in omega arith
+pub offset_bounds-words-s : goal.offset_bounds-words-s
+offset_bounds-words-s c = let f = few (goal.at.offset_bounds-words-s c).Start in let l = long (goal.at.offset_bounds-words-s c).Start in omega arith
 
 pub slice_bounds-figures_of-count : goal.slice_bounds-figures_of-count
 slice_bounds-figures_of-count c = let f = few (goal.at.slice_bounds-figures_of-count c).Start in let l = long (goal.at.slice_bounds-figures_of-count c).Start in omega arith
@@ -68,9 +73,14 @@ largest c t of =
     let read : c.figures_of-figures.result ≡ figures t.count (density t) = c.figures_of-figures.ensures ∙ rw (nodes-are of) (figures-read t of.lent (part-is of)) in
     ap (λ (x : Figures). x.largest) read
 
+-- a test as a number
+one-is : (b : Bool) → from_bool b ≡ one b
+one-is true = refl
+one-is false = refl
+
 pub returns : goal.returns
 returns c = λ t of.
     let h = heavy (goal.at.returns c).After-kinds_of-kinds t of in
     let s = segments-are of in
     let light : at c.args.words.now 1 - c.kinds_of-kinds.result.heavies ≡ light_in t = omega (arith, heavy-light t) in
-    rw (light, nodes-are of, s, of.totals.work, h, c.above_one.ensures, largest (goal.at.returns c).After-figures_of-figures t of)
+    rw (light, nodes-are of, s, of.totals.work, h, c.from.ensures, one-is (ltb million c.figures_of-figures.result.largest), largest (goal.at.returns c).After-figures_of-figures t of)
