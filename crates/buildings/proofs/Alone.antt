@@ -4,11 +4,10 @@ use mathlib.Core.Bool.{true}
 use mathlib.Core.List.{List}
 use Prim.Native.Nat.{ℕ, ◌≤◌, ◌<◌}
 use native.Mathlib.Omega.{arith}
+use Rattle.std.specs.Prelude.{Result, Ok, Err, ⊤}
 use Rattle.refusals.specs.Numbers.{loop, long_path}
 use Rattle.refusals.specs.Readers.{is_readers}
 use Rattle.refusals.specs.declared.Refusal.{Refusal}
-use Rattle.refusals.specs.declared.Outcome.{Outcome}
-use Rattle.refusals.specs.declared.Outcome.TheVariants as outcome
 use Rattle.refusals.specs.Refusal.{refusal}
 use Rattle.refusals.proofs.Readers.{readers-low, readers-high}
 use Rattle.tables.specs.declared.TaskTable.{TaskTable}
@@ -45,9 +44,9 @@ module _ (bytes : List ℕ) (cost : ℕ) where
     taken : Accepted (task_of bytes cost) → ((A : Type 0) (refuse : Refusal → A) (go : TaskTable → A) → on_task refuse go bytes cost ≡ go (task_of bytes cost)) → Alone
 
   pub alone : cost ≤ cost_max → Alone
-  alone allowed = by (tasking outcome.Refused (λ _. outcome.Accepted) bytes cost allowed)
+  alone allowed = by (tasking Err (λ _. Ok tt) bytes cost allowed)
     where
-      by : {o : Outcome} → Tasking outcome.Refused (λ _. outcome.Accepted) bytes cost o → Alone
+      by : {o : Result ⊤ Refusal} → Tasking Err (λ _. Ok tt) bytes cost o → Alone
       by (unread r e) = turned r (reader (refused-told bytes r e).own) (λ A refuse go. task-refused refuse go bytes cost e)
       by (round e l) = turned (loop_in (task_of bytes cost)) looped (λ A refuse go. task-read refuse go bytes cost e ∙ on-loop refuse go (task_of bytes cost) l)
       by (long e l h) = turned (refusal long_path 0) outrun (λ A refuse go. task-read refuse go bytes cost e ∙ on-long refuse go (task_of bytes cost) l h)

@@ -4,11 +4,12 @@ use mathlib.Core.List.{List, [], ◌∷◌, ◌++◌}
 use Prim.Native.Nat.{ℕ, ◌+◌, ◌≤◌, ◌<◌}
 use native.Mathlib.Omega.{arith}
 use lib.ListN.{length}
+use Rattle.std.specs.Prelude.{Err}
 use Rattle.refusals.specs.declared.Refusal.{Refusal}
 use Rattle.refusals.specs.Answer.{accepted}
 use Rattle.refusals.specs.Answer as refusal
 use Rattle.tables.specs.Limits.{cost_max}
-use Rattle.records.specs.declared.Step.TheVariants.{Read, Refused}
+use Rattle.records.specs.Step.{read}
 use Rattle.plans.specs.Words.{words_max}
 use Rattle.files.specs.File.{record_at, part_of, walk}
 use Rattle.files.specs.Laid.{Laid}
@@ -36,7 +37,7 @@ module _ (file : List ℕ) (cost : ℕ) where
 
   module _ {words : List ℕ} {counts : Counts} {place : ℕ} (c : Counted file cost words counts place) where
     -- a record more
-    pub counted-more : {size begin : ℕ} {words' : List ℕ} {counts' : Counts} → cost ≤ cost_max → record_at file place ≡ Read size begin → length words' ≡ words_max →
+    pub counted-more : {size begin : ℕ} {words' : List ℕ} {counts' : Counts} → cost ≤ cost_max → record_at file place ≡ read size begin → length words' ≡ words_max →
         counts' ≡ with_tally counts (tally_of (part_of file begin size) cost) → Counted file cost words' counts' (begin + size)
     counted-more {size} {begin} allowed here room e = let part = part_of file begin size in record {
       before = c.before ++ part ∷ [];
@@ -57,5 +58,5 @@ module _ (file : List ℕ) (cost : ℕ) where
     unfolding counts_of
     counted-whole h = rw (laid-whole file c.laid h, c.are)
 
-    pub counted-stopped : {r : Refusal} → place < length file → record_at file place ≡ Refused r → record { answer = refusal.refused r; counts = counts } ≡ counted (walk file) cost
+    pub counted-stopped : {r : Refusal} → place < length file → record_at file place ≡ Err r → record { answer = refusal.refused r; counts = counts } ≡ counted (walk file) cost
     counted-stopped h e = rw (laid-refused file c.laid h e, c.are)

@@ -1,10 +1,8 @@
 -- Walking a whole building's file, as one definition.
-use Rattle.std.specs.Prelude.{List, ℕ, ltb, length}
+use Rattle.std.specs.Prelude.{List, ℕ, Result, Ok, Err, ⊤, ltb, length}
 use Rattle.plain.specs.Pick.{pick}
 use Rattle.refusals.specs.Numbers.{high_cost, long_file}
 use Rattle.refusals.specs.declared.Refusal.{Refusal}
-use Rattle.refusals.specs.declared.Outcome.{Outcome}
-use Rattle.refusals.specs.declared.Outcome.TheVariants as outcome
 use Rattle.refusals.specs.Refusal.{refusal, on_outcome}
 use Rattle.refusals.specs.Answer.{accepted, refused}
 use Rattle.tables.specs.Limits.{cost_max}
@@ -17,8 +15,8 @@ abbrev pub file_max : ℕ
 file_max = 1_048_576
 
 -- 26, "cost above 255, before all others"; "27, a longer slice, first"
-unfoldable pub before_walking : (size cost : ℕ) → Outcome
-before_walking size cost = pick (ltb cost_max cost) (outcome.Refused (refusal high_cost 0)) (pick (ltb file_max size) (outcome.Refused (refusal long_file 0)) outcome.Accepted)
+unfoldable pub before_walking : (size cost : ℕ) → Result ⊤ Refusal
+before_walking size cost = pick (ltb cost_max cost) (Err (refusal high_cost 0)) (pick (ltb file_max size) (Err (refusal long_file 0)) (Ok tt))
 
 -- "all counts 0"
 abbrev pub uncounted : Refusal → Building

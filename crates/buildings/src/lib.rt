@@ -1,22 +1,19 @@
 // The counts of a whole building's file: each of its records planned alone.
 #![tactic(auto)]
 
-ghost use Rattle.std.specs.Prelude.{◌≡◌, ℕ, ◌≤◌, ◌<◌, Result, Ok, Err, MatchResult, length};
-ghost use Rattle.refusals.specs.declared.Refusal.{Refusal};
+ghost use Rattle.std.specs.Prelude.{◌≡◌, ℕ, ◌≤◌, ◌<◌, MatchResult, length};
+ghost use Rattle.refusals.specs.Answer.{answered};
 ghost use Rattle.tables.specs.Limits.{cost_max};
-ghost use Rattle.tables.specs.Cost.{costed};
-ghost use Rattle.tables.specs.Inner.Plannable.{Plannable};
 ghost use Rattle.plans.specs.Words.{words_max};
-ghost use Rattle.plans.specs.Calls.{on_table};
 ghost use Rattle.buildings.specs.Counts.{numbers_max, no_counts};
 ghost use Rattle.buildings.specs.Building.{file_max, before_walking, building_call};
-ghost use Rattle.buildings.specs.Inner.Tally.{task_sums, tally_of, with_tally, told};
+ghost use Rattle.buildings.specs.Inner.Tally.{task_sums, tally_of, with_tally};
 ghost use Rattle.buildings.specs.Inner.Sized.{Sized, Low};
 ghost use Rattle.buildings.specs.Inner.PlanOf.{PlanOf};
 
 use plans::Planning;
-use records::Step;
-use refusals::{Answer, Outcome, Refusal};
+use refusals::{Answer, Reason, Refusal};
+use shares::Times;
 use tables::TaskTable;
 
 // The limit of specs/: so many bytes of a file are walked.
@@ -88,75 +85,57 @@ fn sums_of(words: &[u64], period: u64, planning: Planning) -> Sums
 {
     let s = words[1] as usize;
     let n = words[2] as usize;
-    let kinds = shares::kinds_of(words, s, period, planning.work, planning.path);
+    let Planning { work, path, .. } = planning;
+    let kinds = Times { period, work, path }.kinds_of(words, s);
     let figures = shares::figures_of(&words[3 + 3 * s..], n);
     Sums {
         nodes: n as u64,
         segments: s as u64,
-        work: planning.work,
+        work,
         heavy: kinds.heavies as u64,
         light: (s - kinds.heavies) as u64,
         dense: u64::from(tables::MILLION < figures.largest),
     }
 }
 
-// What a table that was read adds, with the cost; its plan stays in the words.
-fn tally_table(words: &mut [u64], table: TaskTable, cost: u64) -> Result<Sums, Refusal>
-    requires { Plannable (costed table cost) × (words_max ≤ length words.old) }
-    ensures { result ≡ on_table Err (λ t. Ok (task_sums t)) (costed table cost) }
-{
-    let planning = plans::plan_table(words, table, cost, Answer::accepted(0));
-    let answer = planning.answer;
-    if answer.refusal != 0 {
-        return Err(Refusal::told_by(answer));
-    }
-    Ok(sums_of(words, table.period, planning))
-}
-
-// What a record adds, planned alone.
+// What a record adds, planned alone; its plan stays in the words.
 fn tally_of(bytes: &[u8], words: &mut [u64], cost: u64) -> Result<Sums, Refusal>
     requires { (cost ≤ cost_max) × (words_max ≤ length words.old) }
     ensures { result ≡ tally_of bytes.now cost }
 {
-    let reading = records::read_record(bytes);
-    if let Outcome::Refused(refusal) = reading.outcome {
-        return Err(refusal);
-    }
-    tally_table(words, reading.table, cost)
+    let table = records::read_table(bytes)?;
+    let planning = plans::plan_table(words, &table, cost, Ok(()))?;
+    Ok(sums_of(words, table.period, planning))
 }
 
 // Whether a file is to be walked at all: 26 where the cost is too high, 27 where the file is too long.
-fn before_walking(size: usize, cost: u64) -> Outcome
+#[tactic(auto, unfolding(crate::specs::Building::before_walking))]
+fn before_walking(size: usize, cost: u64) -> Result<(), Refusal>
     ensures { result ≡ before_walking size cost }
 {
     if TaskTable::COST_MAX < cost {
-        return Outcome::Refused(Refusal::of(Refusal::HIGH_COST, 0));
+        return Err(Reason::HighCost.at(0));
     }
     if FILE_MAX < size {
-        return Outcome::Refused(Refusal::of(Refusal::LONG_FILE, 0));
+        return Err(Reason::LongFile.at(0));
     }
-    Outcome::Accepted
+    Ok(())
 }
 
 // Counts the records of a file, up to its end or to the refusal that ends the walk, and says how many they are.
 fn count_records(file: &[u8], cost: u64, counts: &mut Counts) -> Result<u64, Refusal>
     requires { counts.old ≡ no_counts }
-    ensures { record { answer = told result; counts = counts.new } ≡ building_call file.now cost }
+    ensures { record { answer = answered result; counts = counts.new } ≡ building_call file.now cost }
 {
-    if let Outcome::Refused(refusal) = before_walking(file.len(), cost) {
-        return Err(refusal);
-    }
+    before_walking(file.len(), cost)?;
     let mut words = [0u64; plans::WORDS_MAX];
     let mut at: usize = 0;
-    // No iterator: the walk ends at its first refusal, which tells its place in the whole file.
+    // A `while`: each record tells where the next one begins, and a refusal tells its place in the whole file, so an iterator is no plainer.
     while at < file.len() {
-        let (value, next) = match files::record_at(file, at) {
-            Step::Read { value, next } => (value, next),
-            Step::Refused(refusal) => return Err(refusal),
-        };
-        let size = value as usize;
-        counts.add(tally_of(files::part_of(file, next, size), &mut words, cost));
-        at = next + size;
+        let found = files::record_at(file, at)?;
+        let size = found.value as usize;
+        counts.add(tally_of(files::part_of(file, found.next, size), &mut words, cost));
+        at = found.next + size;
     }
     Ok(counts.records)
 }
@@ -166,9 +145,6 @@ pub fn count_building(file: &[u8], cost: u64) -> Building
     ensures { result ≡ building_call file.now cost }
 {
     let mut counts = Counts::default();
-    let answer = match count_records(file, cost, &mut counts) {
-        Ok(records) => Answer::accepted(records),
-        Err(refusal) => Answer::refused(refusal),
-    };
+    let answer = Answer::from(count_records(file, cost, &mut counts));
     Building { answer, counts }
 }

@@ -23,37 +23,35 @@ use Rattle.buildings.specs.Task.{heavy_in, light_in}
 use Rattle.buildings.proofs.Sized.{heavy-light}
 use Rattle.buildings.proofs.Planned.{plan-long, segments-are, nodes-are, segments-few, deal-in, heavy-are, part-is}
 use Rattle.buildings.proofs.sums_of.Goals as goal
-use Rattle.buildings.proofs.sums_of.Goals.{After-figures_of-figures, After-kinds_of-kinds, Start}
+use Rattle.buildings.proofs.sums_of.Goals.{After-figures_of-figures, After-from, After-kinds_of-kinds, Start}
 
-long : (c : Start) → 387 ≤ length c.args.words.now
-long c = plan-long c.requires.1
-
-few : (c : Start) → at c.args.words.now 1 ≤ 64
-few c = segments-few c.requires.1
+-- the words have room for a plan, and tell few segments
+sized : (c : Start) → (387 ≤ length c.args.words.now) × (at c.args.words.now 1 ≤ 64)
+sized c = (plan-long c.requires.1, segments-few c.requires.1)
 
 pub bounds-words-1 : goal.bounds-words-1
-bounds-words-1 c = omega (arith, long (goal.at.bounds-words-1 c).Start)
+bounds-words-1 c = omega (arith, sized (goal.at.bounds-words-1 c).Start)
 
 pub bounds-words-2 : goal.bounds-words-2
-bounds-words-2 c = omega (arith, long (goal.at.bounds-words-2 c).Start)
+bounds-words-2 c = omega (arith, sized (goal.at.bounds-words-2 c).Start)
 
 pub kinds_of-kinds-requires : goal.kinds_of-kinds-requires
 kinds_of-kinds-requires c = deal-in c.requires.1
 
 pub overflow_mul-s : goal.overflow_mul-s
-overflow_mul-s c = let f = few (goal.at.overflow_mul-s c).Start in omega arith
+overflow_mul-s c = omega (arith, sized (goal.at.overflow_mul-s c).Start)
 
 pub overflow_add-s : goal.overflow_add-s
-overflow_add-s c = let f = few (goal.at.overflow_add-s c).Start in omega arith
+overflow_add-s c = omega (arith, sized (goal.at.overflow_add-s c).Start)
 
 pub offset_bounds-words-s : goal.offset_bounds-words-s
-offset_bounds-words-s c = let f = few (goal.at.offset_bounds-words-s c).Start in let l = long (goal.at.offset_bounds-words-s c).Start in omega arith
+offset_bounds-words-s c = omega (arith, sized (goal.at.offset_bounds-words-s c).Start)
 
 pub slice_bounds-figures_of-count : goal.slice_bounds-figures_of-count
-slice_bounds-figures_of-count c = let f = few (goal.at.slice_bounds-figures_of-count c).Start in let l = long (goal.at.slice_bounds-figures_of-count c).Start in omega arith
+slice_bounds-figures_of-count c = omega (arith, sized (goal.at.slice_bounds-figures_of-count c).Start)
 
 pub slice_bounds-figures_of-start : goal.slice_bounds-figures_of-start
-slice_bounds-figures_of-start c = let f = few (goal.at.slice_bounds-figures_of-start c).Start in let l = long (goal.at.slice_bounds-figures_of-start c).Start in omega arith
+slice_bounds-figures_of-start c = omega (arith, sized (goal.at.slice_bounds-figures_of-start c).Start)
 
 pub figures_of-figures-requires : goal.figures_of-figures-requires
 figures_of-figures-requires c =
@@ -78,9 +76,13 @@ one-is : (b : Bool) → from_bool b ≡ one b
 one-is true = refl
 one-is false = refl
 
+-- a density above one counts as dense
+dense : (c : After-from) → (c.from.result ≡ one (ltb million c.figures_of-figures.result.largest))
+dense c = c.from.ensures ∙ one-is (ltb million c.figures_of-figures.result.largest)
+
 pub returns : goal.returns
 returns c = λ t of.
     let h = heavy (goal.at.returns c).After-kinds_of-kinds t of in
     let s = segments-are of in
     let light : at c.args.words.now 1 - c.kinds_of-kinds.result.heavies ≡ light_in t = omega (arith, heavy-light t) in
-    rw (light, nodes-are of, s, of.totals.work, h, c.from.ensures, one-is (ltb million c.figures_of-figures.result.largest), largest (goal.at.returns c).After-figures_of-figures t of)
+    rw (light, nodes-are of, s, of.totals.work, h, dense (goal.at.returns c).After-from, largest (goal.at.returns c).After-figures_of-figures t of)

@@ -1,41 +1,59 @@
--- `buildings::tally_of` meets its contract: the reading's refusal first, then the table that was read.
-use mathlib.Core.Path.{◌≡◌, sym, ap, ◌∙◌}
+-- `buildings::tally_of` meets its contract: the reading's refusal first, then planning's; an accepted task is tallied by its written plan.
+use mathlib.Core.Path.{refl, sym, ap, ◌∙◌}
 use Rattle.std.specs.Prelude.{Result, Ok, Err}
 use Rattle.refusals.specs.declared.Refusal.{Refusal}
-use Rattle.refusals.specs.declared.Outcome.TheVariants.{Accepted}
+use Rattle.refusals.proofs.Out.{goes-out}
 use Rattle.tables.specs.declared.TaskTable.{TaskTable}
 use Rattle.tables.specs.Cost.{costed}
-use Rattle.records.specs.declared.Reading.{Reading}
-use Rattle.records.specs.Reading.{reading_of}
-use Rattle.plans.specs.Calls.{on_table}
+use Rattle.plans.specs.Inner.Drawn.{Totalled}
 use Rattle.plans.proofs.Table.{read-plannable}
-use Rattle.plans.proofs.Tests.{task-refused, task-read}
+use Rattle.plans.proofs.Tests.{on_fits, table-refused, task-out, task-table, told-out, told-in}
 use Rattle.buildings.specs.declared.Sums.{Sums}
 use Rattle.buildings.specs.Inner.Tally.{task_sums, tally_of}
+use Rattle.buildings.specs.Inner.PlanOf.{PlanOf}
 use Rattle.buildings.proofs.tally_of.Goals as goal
-use Rattle.buildings.proofs.tally_of.Goals.{In_default}
+use Rattle.buildings.proofs.tally_of.Goals.{In_ok-planning}
 
--- a table that is accepted
+-- a refusal, and a table that is accepted
+abbrev failed : Refusal → Result Sums Refusal
+failed r = Err r
+
 abbrev added : TaskTable → Result Sums Refusal
 added t = Ok (task_sums t)
 
-pub returns-in-Refused : goal.returns-in-Refused
+pub returns-in_err-table : goal.returns-in_err-table
 unfolding tally_of
-returns-in-Refused c =
-    let a = c.args in
-    sym (task-refused Err added a.bytes.now a.cost (ap (λ (r : Reading). r.outcome) (sym c.read_record-reading.ensures) ∙ c.in-Refused.is))
+returns-in_err-table c = goes-out _ _ c.from_residual.ensures.1 ∙ sym (task-out failed added c.args.bytes.now c.args.cost c.in_err-table.ensures)
 
--- a table that was read
-read : (c : In_default) → (reading_of c.args.bytes.now).outcome ≡ Accepted
-read c = ap (λ (r : Reading). r.outcome) (sym c.read_record-reading.ensures) ∙ c.in_default.is
+pub plan_table-requires : goal.plan_table-requires
+plan_table-requires c = (read-plannable c.args.bytes.now c.in_ok-table.ensures c.requires.0, c.requires.1)
 
-pub tally_table-requires : goal.tally_table-requires
-tally_table-requires c =
-    (read-plannable c.args.bytes.now c.read_record-reading.ensures (read (goal.at.tally_table-requires c).In_default) c.requires.0, c.requires.1)
+pub returns-in_err-planning : goal.returns-in_err-planning
+unfolding tally_of
+returns-in_err-planning c =
+    let t = costed c.in_ok-table.table c.args.cost in
+    goes-out _ _ c.from_residual-in_err-planning.ensures.1
+    ∙ sym (task-table failed added c.args.bytes.now c.args.cost c.in_ok-table.ensures ∙ table-refused failed added t (told-out (Ok tt) c.args.words.now t c.in_err-planning.ensures.words_after).0)
+
+-- an accepted table's plan stands in the words
+of-plan : (c : In_ok-planning) → PlanOf (costed c.in_ok-table.table c.args.cost) c.plan_table.new.words c.in_ok-table.table.period c.in_ok-planning.planning
+of-plan c =
+    let t = costed c.in_ok-table.table c.args.cost in
+    let totals : Totalled t c.in_ok-planning.planning = c.in_ok-planning.ensures.totalled in
+    record {
+      totals = totals;
+      period-is = refl;
+      lent = c.args.words.now;
+      room = c.requires.1;
+      plan = (told-in (Ok tt) c.args.words.now t totals c.in_ok-planning.ensures.words_after).1;
+    }
+
+pub sums_of-requires : goal.sums_of-requires
+sums_of-requires c = (_, of-plan (goal.at.sums_of-requires c).In_ok-planning)
 
 pub returns : goal.returns
 unfolding tally_of
 returns c =
-    let a = c.args in
-    c.tally_table.ensures
-    ∙ ap (λ (r : Reading). on_table Err added (costed r.table a.cost)) c.read_record-reading.ensures ∙ sym (task-read Err added a.bytes.now a.cost (read (goal.at.returns c).In_default))
+    let t = costed c.in_ok-table.table c.args.cost in
+    let of = of-plan (goal.at.returns c).In_ok-planning in
+    ap Ok (c.sums_of.ensures t of) ∙ sym (task-table failed added c.args.bytes.now c.args.cost c.in_ok-table.ensures ∙ on_fits failed added t of.totals.table.free of.totals.table.fits)

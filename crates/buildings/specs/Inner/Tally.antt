@@ -2,8 +2,6 @@
 use Rattle.std.specs.Prelude.{List, ℕ, ◌+◌, Result, Ok, Err, set}
 use Rattle.plain.specs.At.{at}
 use Rattle.refusals.specs.declared.Refusal.{Refusal}
-use Rattle.refusals.specs.declared.Answer.{Answer}
-use Rattle.refusals.specs.Answer.{accepted, refused}
 use Rattle.tables.specs.declared.TaskTable.{TaskTable}
 use Rattle.plans.specs.Diagram.{work, segment_count}
 use Rattle.plans.specs.Calls.{on_task}
@@ -33,8 +31,3 @@ with_tally c (Ok s) = record {
   dense = c.dense + s.dense;
 }
 with_tally c (Err r) = record c { records = c.records + 1; refused = set c.refused r.number (at c.refused r.number + 1) }
-
--- the answer that says so
-abbrev pub told : Result ℕ Refusal → Answer
-told (Ok v) = accepted v
-told (Err r) = refused r
