@@ -1,48 +1,61 @@
 -- Whether and where a row is placed is told by two places, that of its id and the lowest free one: no test of `placed` looks at another figure.
-use mathlib.Core.Path.{◌≡◌, refl}
-use mathlib.Core.Bool.{Bool, true, false}
-use mathlib.Core.List.{List}
-use Prim.Native.Nat.{◌<◌}
+use Rattle.std.proofs.Common.{◌≡◌, refl, ap, Bool, true, false, List, ℕ, ◌<◌, Some, None, arith}
+use Rattle.std.specs.Prelude.{Result, Ok, Err, ⊤}
+use Rattle.std.specs.Result.{result_and}
 use lib.Dec.{ltb}
-use borrow.Author.Tests.{eqb-false, ltb-true}
+use borrow.Author.Tests.{ltb-true}
 use Rattle.plain.specs.Pick.{pick}
 use Rattle.refusals.specs.Numbers.{id_stands, board_full}
-use Rattle.refusals.specs.declared.Answer.{Answer}
+use Rattle.refusals.specs.declared.Refusal.{Refusal}
 use Rattle.refusals.specs.Refusal.{refusal}
-use Rattle.refusals.specs.Answer.{accepted, refused}
 use Rattle.boards.specs.declared.Row.{Row}
 use Rattle.boards.specs.declared.Change.{Change}
 use Rattle.boards.specs.Row.{rows_max}
 use Rattle.boards.specs.Find.{place_of, free_at}
-use Rattle.boards.specs.Change.{unchanged, placed}
-use Rattle.boards.specs.Inner.Place.{told_place}
+use Rattle.boards.specs.Change.{placed}
+use Rattle.boards.specs.Inner.Place.{row_place, told_place}
 
 module _ (rows : List Row) (row : Row) where
-  -- what the tests of both pick
-  abbrev told : Bool → Bool → Answer
-  told stands free = pick stands (refused (refusal id_stands 0)) (pick free (accepted (free_at rows)) (refused (refusal board_full 0)))
+  -- what the two places tell
+  abbrev pub found : Result ℕ Refusal
+  found = told_place (row_place (place_of row.id rows)) (row_place (free_at rows))
 
-  abbrev picked : Bool → Bool → Change
-  picked stands free =
-      pick stands (unchanged rows (refused (refusal id_stands 0))) (pick free (record { at = free_at rows; row = row; answer = accepted (free_at rows) }) (unchanged rows (refused (refusal board_full 0))))
+  -- what the tests of both pick
+  abbrev told : Bool → Bool → Result ℕ Refusal
+  told stands free = told_place (pick stands (Some (place_of row.id rows)) None) (pick free (Some (free_at rows)) None)
+
+  abbrev picked : Bool → Bool → Result Change Refusal
+  picked stands free = pick stands (Err (refusal id_stands 0)) (pick free (Ok (record { at = free_at rows; row = row })) (Err (refusal board_full 0)))
 
   -- a row that is refused leaves the board as it is
-  pub place-refused : ((told_place (place_of row.id rows) (free_at rows)).refusal ≡ 0 → ⊥) → placed rows row ≡ unchanged rows (told_place (place_of row.id rows) (free_at rows))
+  pub place-refused : {r : Refusal} → found ≡ Err r → placed rows row ≡ Err r
   unfolding placed
-  place-refused = by (ltb (place_of row.id rows) rows_max) (ltb (free_at rows) rows_max)
+  place-refused {r} = by (ltb (place_of row.id rows) rows_max) (ltb (free_at rows) rows_max)
     where
-      by : (b c : Bool) → ((told b c).refusal ≡ 0 → ⊥) → picked b c ≡ unchanged rows (told b c)
-      by true c n = refl
-      by false true n = absurd (n refl)
-      by false false n = refl
+      by : (b c : Bool) → told b c ≡ Err r → picked b c ≡ Err r
+      by true c e = ap Err (let q : refusal id_stands 0 ≡ r = cc in q)
+      by false true e = absurd (let z : ◌≡◌ {A = ℕ} 0 1 = cc in omega arith)
+      by false false e = ap Err (let q : refusal board_full 0 ≡ r = cc in q)
 
   -- any other goes to the free place
-  pub place-accepted : (told_place (place_of row.id rows) (free_at rows)).refusal ≡ 0
-      → (placed rows row ≡ record { at = free_at rows; row = row; answer = told_place (place_of row.id rows) (free_at rows) }) × (free_at rows < rows_max)
+  pub place-accepted : {a : ℕ} → found ≡ Ok a → (placed rows row ≡ Ok (record { at = a; row = row })) × (a ≡ free_at rows) × (a < rows_max)
   unfolding placed
-  place-accepted = by (ltb (place_of row.id rows) rows_max) (ltb (free_at rows) rows_max) refl
+  place-accepted {a} = by (ltb (place_of row.id rows) rows_max) (ltb (free_at rows) rows_max) refl
     where
-      by : (b c : Bool) → ltb (free_at rows) rows_max ≡ c → (told b c).refusal ≡ 0 → (picked b c ≡ record { at = free_at rows; row = row; answer = told b c }) × (free_at rows < rows_max)
-      by true c f e = absurd (eqb-false id_stands 0 refl e)
-      by false true f e = (refl, ltb-true (free_at rows) rows_max f)
-      by false false f e = absurd (eqb-false board_full 0 refl e)
+      by : (b c : Bool) → ltb (free_at rows) rows_max ≡ c → told b c ≡ Ok a → (picked b c ≡ Ok (record { at = a; row = row })) × (a ≡ free_at rows) × (a < rows_max)
+      by true c f e = absurd (let z : ◌≡◌ {A = ℕ} 0 1 = cc in omega arith)
+      by false true f e =
+          let q : a ≡ free_at rows = cc in
+          (rw q, q, rw q (ltb-true (free_at rows) rows_max f))
+      by false false f e = absurd (let z : ◌≡◌ {A = ℕ} 0 1 = cc in omega arith)
+
+-- planning is told what the places tell, as a later rule's outcome
+abbrev pub later_of : Result ℕ Refusal → Result ⊤ Refusal
+later_of told = result_and told (Ok tt)
+
+pub later-refused : (told : Result ℕ Refusal) {r : Refusal} → later_of told ≡ Err r → told ≡ Err r
+later-refused (Ok a) e = absurd (let z : ◌≡◌ {A = ℕ} 0 1 = cc in omega arith)
+later-refused (Err q) {r} e = ap Err (let s : q ≡ r = cc in s)
+
+pub later-accepted : {told : Result ℕ Refusal} {r : Refusal} → later_of told ≡ Ok tt → told ≡ Err r → ⊥
+later-accepted {told} {r} e f = let g : later_of (Err r) ≡ Ok tt = rw f at e in let z : ◌≡◌ {A = ℕ} 0 1 = cc in omega arith

@@ -1,72 +1,62 @@
--- `admissions::note_table` meets its contract: the answer by the two places is a refusal just where the board has no room for the row, planning hands
+-- `admissions::note_table` meets its contract: what the two places tell is a refusal just where the board has no room for the row, planning hands
 -- it on where the table has a plan, and the row read off the words just written is the task's.
-use mathlib.Core.Path.{◌≡◌, refl, sym, ap, subst, ◌∙◌}
-use Prim.Native.Nat.{ℕ, ◌<◌}
-use native.Mathlib.Omega.{arith}
-use Rattle.refusals.specs.declared.Answer.{Answer}
-use Rattle.refusals.specs.Answer.{accepted}
+use Rattle.std.proofs.Common.{◌≡◌, refl, sym, ◌∙◌}
+use Rattle.std.specs.Prelude.{Ok}
+use Rattle.refusals.proofs.Out.{goes-out}
 use Rattle.tables.specs.Cost.{costed}
-use Rattle.plans.specs.Diagram.{segment_count}
-use Rattle.plans.specs.Words.{word_count, written}
-use Rattle.plans.specs.Calls.{on_table}
-use Rattle.plans.specs.Inner.Drawn.{Totalled}
-use Rattle.boards.specs.Row.{rows_max}
-use Rattle.boards.specs.Find.{place_of, free_at}
-use Rattle.boards.specs.Inner.Place.{told_place}
-use Rattle.admissions.specs.Admission.{Admission, not_admitted, entered}
+use Rattle.plans.specs.Words.{written}
+use Rattle.plans.proofs.Tests.{told-in, on_fits}
+use Rattle.admissions.specs.Admission.{not_admitted, entered, row_of}
 use Rattle.admissions.specs.Inner.PlanIn.{PlanIn}
-use Rattle.admissions.proofs.Tests.{stays_out, goes_in, table-out, table-in}
+use Rattle.admissions.proofs.Place.{found, later-accepted}
+use Rattle.admissions.proofs.Tests.{table-out, stays_out, goes_in}
 use Rattle.admissions.proofs.note_table.Goals as goal
-use Rattle.admissions.proofs.note_table.Goals.{After-told_place-place, Else-answer-ne0}
+use Rattle.admissions.proofs.note_table.Goals.{After-told_place-place, In_ok-planning}
 
--- the answer by the two places
-found : (c : After-told_place-place) → (let rows = c.args.board.rows in c.told_place-place.result ≡ told_place (place_of (costed c.args.table c.args.cost).id rows) (free_at rows))
-found c = rw (c.place_of.ensures, c.place_of-free.ensures) at c.told_place-place.ensures
+-- what the two places tell
+found-so : (c : After-told_place-place) → c.told_place-place.result ≡ found c.args.board.now.rows (row_of (costed c.args.table.now c.args.cost))
+found-so c = rw (c.place_of.ensures, c.place_of-2.ensures) at c.told_place-place.ensures
 
-pub returns-then-answer-ne0 : goal.returns-then-answer-ne0
-returns-then-answer-ne0 c =
-    let rows = c.args.board.rows in
+pub returns-in_err-planning-clause-told : goal.returns-in_err-planning-clause-told
+returns-in_err-planning-clause-told c =
     let words = c.args.words.now in
-    let (e, same) = table-out rows words words (costed c.args.table c.args.cost) c.told_place-place.result c.plan_table-planning.ensures.words_after (entered rows words) (stays_out rows words (costed c.args.table c.args.cost) (found (goal.at.returns-then-answer-ne0 c).After-told_place-place)) c.if-answer-ne0.true in
-    (c.unchanged.ensures ∙ sym (ap (λ (x : Admission). x.change) e), rw c.unchanged.ensures (omega arith), same ∙ sym (ap (λ (x : Admission). x.words) e))
+    let rows = c.args.board.now.rows in
+    let t = costed c.args.table.now c.args.cost in
+    let found = found-so (goal.at.returns-in_err-planning-clause-told c).After-told_place-place in
+    let out = table-out words words t (entered rows words) c.and.ensures (λ r e. stays_out rows words t (sym found ∙ e)) {r = c.in_err-planning.field-0.0} c.in_err-planning.ensures.words_after in
+    let told = goes-out _ _ c.from_residual.ensures.1 in
+    (λ i. record { change = told i; words = out.1 i }) ∙ sym out.0
 
--- the table has a plan, and its figures are told
-totals : (c : Else-answer-ne0) → Totalled (costed c.args.table c.args.cost) c.plan_table-planning.result
-totals c = c.plan_table-planning.ensures.totalled c.if-answer-ne0.false
+-- where the table has a plan, its place was told, and the words are written
+written-so : (c : In_ok-planning) → (c.and.result ≡ Ok tt) × (c.plan_table.new.words ≡ written (costed c.args.table.now c.args.cost) c.args.words.now)
+written-so c = told-in c.and.result c.args.words.now (costed c.args.table.now c.args.cost) c.in_ok-planning.ensures.totalled c.in_ok-planning.ensures.words_after
 
--- so its words are written, and it enters
-enters : (c : Else-answer-ne0) → (let t = costed c.args.table c.args.cost in let words = c.args.words.now in let p = c.plan_table-planning in
-    (c.told_place-place.result.refusal ≡ 0) × (p.result.answer ≡ accepted (word_count (segment_count t) t.count)) × (p.new.words ≡ written t words)
-    × (on_table (not_admitted c.args.board.rows words) (entered c.args.board.rows words) t ≡ entered c.args.board.rows words t))
-enters c =
-    let rows = c.args.board.rows in
-    let words = c.args.words.now in
-    table-in rows words words (costed c.args.table c.args.cost) c.told_place-place.result c.plan_table-planning.ensures.words_after (entered rows words) (stays_out rows words (costed c.args.table c.args.cost) (found (goal.at-Else-answer-ne0 c).After-told_place-place)) c.if-answer-ne0.false (totals c).table
+pub returns-in_err-at-clause-told : goal.returns-in_err-at-clause-told
+returns-in_err-at-clause-told c =
+    absurd (later-accepted (sym c.and.ensures ∙ (written-so (goal.at.returns-in_err-at-clause-told c).In_ok-planning).0) c.in_err-at.was)
 
 -- the plan stands in the words
-plan-in : (c : Else-answer-ne0) → (let p = c.plan_table-planning in PlanIn (costed c.args.table c.args.cost) c.args.table.id c.args.table.count p.result p.new.words)
+plan-in : (c : In_ok-planning) → PlanIn (costed c.args.table.now c.args.cost) c.args.table.now.id c.args.table.now.count c.in_ok-planning.planning c.plan_table.new.words
 plan-in c = record {
-  totals = totals c;
+  totals = c.in_ok-planning.ensures.totalled;
   id = refl;
   count = refl;
-  long = ap (λ (a : Answer). a.value) (enters c).1;
   old = c.args.words.now;
   room = c.requires.1;
-  plan = (enters c).2;
+  plan = (written-so c).1;
 }
 
 pub row_of-row-requires : goal.row_of-row-requires
-row_of-row-requires c = (costed c.args.table c.args.cost, plan-in (goal.at.row_of-row-requires c).Else-answer-ne0)
+row_of-row-requires c = (costed c.args.table.now c.args.cost, plan-in (goal.at.row_of-row-requires c).In_ok-planning)
 
 -- so the row is the task's
-pub returns : goal.returns
-returns c =
-    let rows = c.args.board.rows in
-    let (entry, low) = goes_in rows c.args.words.now (costed c.args.table c.args.cost) (found (goal.at.returns c).After-told_place-place) (enters (goal.at.returns c).Else-answer-ne0).0 in
-    let so = (enters (goal.at.returns c).Else-answer-ne0).3 ∙ entry in
-    let free = c.place_of-free.ensures in
-    let row = c.row_of-row.ensures (costed c.args.table c.args.cost) (plan-in (goal.at.returns c).Else-answer-ne0) in (
-      (λ i. record { at = free i; row = row i; answer = c.told_place-place.result }) ∙ sym (ap (λ (x : Admission). x.change) so),
-      subst (λ (k : ℕ). k < rows_max) (sym free) low,
-      (enters (goal.at.returns c).Else-answer-ne0).2 ∙ sym (ap (λ (x : Admission). x.words) so),
-    )
+pub returns-clause-told : goal.returns-clause-told
+returns-clause-told c =
+    let words = c.args.words.now in
+    let rows = c.args.board.now.rows in
+    let t = costed c.args.table.now c.args.cost in
+    let ok = c.in_ok-planning.ensures.totalled.table in
+    let row = c.row_of-row.ensures t (plan-in (goal.at.returns-clause-told c).In_ok-planning) in
+    let goes = goes_in rows words t (sym (found-so (goal.at.returns-clause-told c).After-told_place-place) ∙ c.in_ok-at.was) in
+    let left = (written-so (goal.at.returns-clause-told c).In_ok-planning).1 in
+    (λ i. record { change = Ok (record { at = c.in_ok-at.at; row = row i }); words = left i }) ∙ sym (on_fits (not_admitted words) (entered rows words) t ok.free ok.fits ∙ goes.0)

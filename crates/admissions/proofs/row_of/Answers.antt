@@ -24,20 +24,20 @@ some-table c = c.requires
 
 -- the words of the nodes, and where they begin
 abbrev from : (c : Start) → ℕ
-from c = let a = c.args in a.planning.answer.value - 3 * a.n
+from c = let a = c.args in a.planning.words - 3 * a.n
 
 abbrev nodes : (c : Start) → List ℕ
 nodes c = let w = c.args.words.now in take (length w - from c) (drop (from c) w)
 
 part : (c : Start) {t : TaskTable} (p : Holds c t) → nodes c ≡ node_part t p.old
-part c {t} p = part-lent t p.old p.plan (omega (arith, p.long, p.count))
+part c {t} p = part-lent t p.old p.plan (omega (arith, p.totals.words, p.count))
 
 -- the whole plan lies in the words
-inside : (c : Start) → (let a = c.args in (3 * a.n ≤ a.planning.answer.value) × (a.planning.answer.value ≤ length a.words.now))
+inside : (c : Start) → (let a = c.args in (3 * a.n ≤ a.planning.words) × (a.planning.words ≤ length a.words.now))
 inside c =
     let p = (some-table c).1 in
     let all = ap length p.plan in
-    (omega (arith, p.long, p.count), omega (arith, p.long, plan-fits p.totals.table p.old p.room))
+    (omega (arith, p.totals.words, p.count), omega (arith, p.totals.words, plan-fits p.totals.table p.old p.room))
 
 -- what reading the figures of n nodes asks
 abbrev Readable : List ℕ → ℕ → Type 0
@@ -71,7 +71,7 @@ shortest_of-shortest-requires c = (readable (goal.at.shortest_of-shortest-requir
 pub bounds-words-0 : goal.bounds-words-0
 bounds-words-0 c =
     let p = (some-table (goal.at.bounds-words-0 c).Start).1 in
-    omega (arith, p.long, (inside (goal.at.bounds-words-0 c).Start).1)
+    omega (arith, p.totals.words, (inside (goal.at.bounds-words-0 c).Start).1)
 
 pub returns : goal.returns
 returns c = λ t p.

@@ -2,8 +2,7 @@
 use Rattle.std.specs.Prelude.{◌≡◌, List, ℕ, ◌≤◌, length}
 use Rattle.tables.specs.declared.TaskTable.{TaskTable}
 use Rattle.plans.specs.declared.Planning.{Planning}
-use Rattle.plans.specs.Diagram.{segment_count}
-use Rattle.plans.specs.Words.{word_count, words_max, written}
+use Rattle.plans.specs.Words.{words_max, written}
 use Rattle.plans.specs.Inner.Drawn.{Totalled}
 
 -- of a table that has a plan: its id and node count, what planning it told, and words in which the plan stands
@@ -11,7 +10,6 @@ pub record PlanIn (t : TaskTable) (i n : ℕ) (p : Planning) (words : List ℕ) 
   pub totals : Totalled t p
   pub id : i ≡ t.id
   pub count : n ≡ t.count
-  pub long : p.answer.value ≡ word_count (segment_count t) t.count
   pub old : List ℕ
   pub room : words_max ≤ length old
   pub plan : words ≡ written t old
