@@ -1,10 +1,10 @@
--- What noting keeps. An accepted task's row stands, and a standing row placed on a sound board leaves it sound; a refusal writes row 0 as it was and no
+-- What noting keeps. An accepted task's row stands, and a standing row placed on a sound board leaves it sound; a refusal writes no row and no
 -- word. What is done with a task that has a plan is left open where it can be, so that admitting has the same.
-use mathlib.Core.Path.{◌≡◌, refl}
+use mathlib.Core.Path.{◌≡◌, refl, sym, ap, ◌∙◌}
 use mathlib.Core.List.{List}
 use Prim.Native.Nat.{ℕ, ◌≤◌}
 use native.Mathlib.Omega.{arith}
-use Rattle.refusals.specs.Numbers.{long_path, few_words, unsound_board, high_cost}
+use Rattle.refusals.specs.Numbers.{long_path, id_stands, board_full, few_words, unsound_board, high_cost}
 use Rattle.std.specs.Prelude.{Result, Ok, Err}
 use Rattle.refusals.specs.declared.Refusal.{Refusal}
 use Rattle.refusals.specs.Refusal.{refusal}
@@ -21,6 +21,8 @@ use Rattle.boards.specs.declared.Change.{Change}
 use Rattle.plans.specs.Words.{written}
 use Rattle.boards.specs.Sound.{Sound}
 use Rattle.boards.specs.Change.{on_change, changed, answer_to, placed}
+use Rattle.boards.proofs.Cases.{Placing, placing}
+use Rattle.boards.proofs.Cases.Placing.{stands, fills, full}
 use Rattle.boards.proofs.Keeping.{placed-sound}
 use Rattle.admissions.specs.Admission.{Admission, row_of, not_admitted, entered, noting}
 use Rattle.admissions.proofs.Row.{row-standing}
@@ -49,6 +51,15 @@ module _ (rows : List Row) (words : List ℕ) (t : TaskTable) where
       by : (told : Result Change Refusal) → (entry-by told).change ≡ told
       by (Ok c) = refl
       by (Err r) = refl
+
+  -- and a refusal of it has a number
+  pub entered-number : {r : Refusal} → (entered rows words t).change ≡ Err r → 1 ≤ r.number
+  entered-number {r} e = by (placing rows (row_of t)) (sym entered-change ∙ e)
+    where
+      by : {c : Result Change Refusal} → Placing rows (row_of t) c → c ≡ Err r → 1 ≤ r.number
+      by (stands h) f = let n = ap (λ (x : Refusal). x.number) (let q : refusal id_stands 0 ≡ r = cc in q) in omega arith
+      by (fills h l) f = absurd (let z : ◌≡◌ {A = ℕ} 0 1 = cc in omega arith)
+      by (full h l) f = let n = ap (λ (x : Refusal). x.number) (let q : refusal board_full 0 ≡ r = cc in q) in omega arith
 
 -- an accepted table's entry keeps a sound board sound
 pub entered-sound : {rows : List Row} → Sound rows → (words : List ℕ) {t : TaskTable} → Accepted t → Sound (changed rows (entered rows words t).change)

@@ -1,38 +1,27 @@
 -- What the guard asks of a task that has a plan. The row that it would fill is free, so S with the task is the sum of both, and M the greater of both; and
 -- the guard keeps just what noting it would leave, or leaves everything.
-use mathlib.Core.Path.{◌≡◌, refl, ap, ◌∙◌}
-use mathlib.Core.Bool.{Bool, true, false}
-use mathlib.Core.List.{List}
-use Prim.Native.Nat.{ℕ, ◌+◌, ◌<◌, max}
-use native.Mathlib.Omega.{arith}
-use lib.ListN.{length, set}
-use borrow.Author.Tests.{eqb-false, eq-eqb, ne_eqb}
+use Rattle.std.proofs.Common.{◌≡◌, refl, sym, ap, ◌∙◌, Bool, true, false, List, ℕ, ◌+◌, ◌<◌, max, set, length, arith}
+use Rattle.std.specs.Prelude.{Result, Ok, Err, ⊤}
+use Rattle.std.specs.Result.{result_and}
 use Rattle.plain.specs.Pick.{pick}
 use Rattle.plain.proofs.Sums.{sum-changed, max-changed}
 use Rattle.refusals.specs.Numbers.{verdict_no}
-use Rattle.refusals.specs.declared.Answer.{Answer}
 use Rattle.refusals.specs.declared.Refusal.{Refusal}
-use Rattle.refusals.specs.declared.Outcome.{Outcome}
-use Rattle.refusals.specs.declared.Outcome.TheVariants.{Accepted, Refused}
-use Rattle.refusals.specs.Refusal.{refusal, on_outcome}
-use Rattle.refusals.specs.Answer.{refused}
+use Rattle.refusals.specs.Refusal.{refusal}
 use Rattle.tables.specs.declared.TaskTable.{TaskTable}
-use Rattle.records.specs.Reading.{reading_of}
 use Rattle.plans.specs.Words.{written}
-use Rattle.plans.specs.Calls.{before_reading, on_table, on_task, task_of}
+use Rattle.plans.specs.Calls.{before_reading, on_task}
 use Rattle.plans.specs.Inner.Planned.{Planned}
 use Rattle.boards.specs.declared.Row.{Row}
 use Rattle.boards.specs.Row.{rows_max, row_at}
 use Rattle.boards.specs.Sound.{Sound, is_sound}
-use Rattle.boards.specs.Find.{place_of, free_at}
+use Rattle.boards.specs.Find.{free_at}
 use Rattle.boards.specs.Verdict.{sum_of, largest_of, verdict}
-use Rattle.boards.specs.Change.{unchanged, changed, before_asking}
-use Rattle.boards.specs.Inner.Place.{told_place}
+use Rattle.boards.specs.Change.{before_asking}
 use Rattle.boards.proofs.Keeping.{others-kept, row_written, place-free, placed-sound}
-use Rattle.admissions.specs.Admission.{Admission, row_of, not_admitted, entered}
+use Rattle.admissions.specs.Admission.{Admission, row_of, not_admitted}
 use Rattle.guards.specs.Guarded.{guarded, guarded_entry, admission}
-use Rattle.refusals.specs.InOrder.{in_order}
-use Rattle.admissions.proofs.Place.{place-accepted}
+use Rattle.admissions.proofs.Place.{found, place-accepted, later_of}
 use Rattle.admissions.proofs.Row.{row-standing}
 use Rattle.admissions.proofs.Tests.{stays_out, goes_in}
 
@@ -52,66 +41,75 @@ module _ {rows : List Row} (s : Sound rows) (h : free_at rows < rows_max) (row :
       max-changed rows_max (λ k. (row_at (set rows (free_at rows) row) k).largest) (λ k. (row_at rows k).largest) (free_at rows) h (λ k n. ap (λ (r : Row). r.largest) (others-kept rows (free_at rows) row k n)) (ap (λ (r : Row). r.largest) (place-free s h))
       ∙ ap (λ (r : Row). max (largest_of rows) r.largest) (row_written s (free_at rows) h row)
 
--- the guard, by the answer of noting and by the verdict
-module _ (rows : List Row) (words : List ℕ) (cores : ℕ) (noted : Admission) where
-  guarded-refused : (noted.change.answer.refusal ≡ 0 → ⊥) → guarded rows words cores noted ≡ noted
-  unfolding guarded
-  guarded-refused n = rw (ne_eqb noted.change.answer.refusal 0 n)
+-- what the guard tells
+abbrev pub told : Bool → Result ⊤ Refusal
+told says = pick says (Ok tt) (Err (refusal verdict_no 0))
 
-  guarded-told : noted.change.answer.refusal ≡ 0 → guarded rows words cores noted ≡ pick (verdict (changed rows noted.change) cores) noted (not_admitted rows words (refusal verdict_no 0))
-  unfolding guarded
-  guarded-told z = rw (eq-eqb noted.change.answer.refusal 0 z)
+-- a place was told where planning goes on
+pub later-told : (told : Result ℕ Refusal) → later_of told ≡ Ok tt → (a : ℕ) × (told ≡ Ok a)
+later-told (Ok a) e = (a, refl)
+later-told (Err r) e = absurd (let z : ◌≡◌ {A = ℕ} 0 1 = cc in omega arith)
 
--- a task that has a plan, by the answer of the two places
-module _ (rows : List Row) (words : List ℕ) (cores : ℕ) (t : TaskTable) {place : Answer} (found : place ≡ told_place (place_of t.id rows) (free_at rows)) where
+-- a task that has a plan, by what the two places tell
+module _ (rows : List Row) (words : List ℕ) (cores : ℕ) (t : TaskTable) {place : Result ℕ Refusal} (found-so : place ≡ found rows (row_of t)) where
   -- no place: nothing is asked
-  pub guard_out : (place.refusal ≡ 0 → ⊥) → guarded rows words cores (entered rows words t) ≡ record { change = unchanged rows place; words = words }
-  guard_out n =
-      let out = stays_out rows words t found n in
-      guarded-refused rows words cores (entered rows words t) (rw out n) ∙ out
+  pub guard_out : (r : Refusal) → place ≡ Err r → guarded_entry rows words cores t ≡ not_admitted words r
+  unfolding guarded
+  guard_out r e = rw (stays_out rows words t (sym found-so ∙ e))
 
-  module _ (z : place.refusal ≡ 0) where
-    -- a place: with the task in it the board is asked
+  module _ {a : ℕ} (z : place ≡ Ok a) where
+    -- a place: it is the lowest free one
+    pub free-told : a ≡ free_at rows
+    free-told = (goes_in rows words t (sym found-so ∙ z)).1
+
+    pub free-low : free_at rows < rows_max
+    free-low = rw free-told at (goes_in rows words t (sym found-so ∙ z)).2
+
+    -- with the task in it the board is asked
     abbrev filled : Admission
-    filled = record { change = record { at = free_at rows; row = row_of t; answer = place }; words = written t words }
+    filled = record { change = Ok (record { at = free_at rows; row = row_of t }); words = written t words }
 
-    abbrev told : Bool → Answer
-    told says = pick says place (refused (refusal verdict_no 0))
-
-    asked : guarded rows words cores (entered rows words t) ≡ pick (verdict (set rows (free_at rows) (row_of t)) cores) filled (not_admitted rows words (refusal verdict_no 0))
-    asked = rw (goes_in rows words t found z).0 (guarded-told rows words cores filled z)
+    asked : guarded_entry rows words cores t ≡ pick (verdict (set rows (free_at rows) (row_of t)) cores) filled (not_admitted words (refusal verdict_no 0))
+    unfolding guarded
+    asked = rw ((goes_in rows words t (sym found-so ∙ z)).0, free-told)
 
     -- and that board is sound
     pub beside-sound : Sound rows → Planned t → Sound (set rows (free_at rows) (row_of t))
-    beside-sound s ok = let e = (place-accepted rows (row_of t) (rw found at z)).0 in rw e at (placed-sound rows (row_of t) s (row-standing ok))
+    beside-sound s ok = let e = (place-accepted rows (row_of t) (sym found-so ∙ z)).0 in rw (e, free-told) at (placed-sound rows (row_of t) s (row-standing ok))
+
+    abbrev says : Bool
+    says = verdict (set rows (free_at rows) (row_of t)) cores
 
     -- it is turned away
-    pub turned-away : ((told (verdict (set rows (free_at rows) (row_of t)) cores)).refusal ≡ 0 → ⊥)
-        → guarded rows words cores (entered rows words t) ≡ record { change = unchanged rows (told (verdict (set rows (free_at rows) (row_of t)) cores)); words = words }
-    turned-away n = asked ∙ by (verdict (set rows (free_at rows) (row_of t)) cores) n
+    pub turned-away : {v : Result ⊤ Refusal} → v ≡ told says → {r : Refusal} → result_and v place ≡ Err r → guarded_entry rows words cores t ≡ not_admitted words r
+    turned-away v {r} e = asked ∙ by says (rw (v, z) at e)
       where
-        by : (b : Bool) → ((told b).refusal ≡ 0 → ⊥) → pick b filled (not_admitted rows words (refusal verdict_no 0)) ≡ record { change = unchanged rows (told b); words = words }
-        by true n = absurd (n z)
-        by false n = refl
+        by : (b : Bool) → result_and (told b) (Ok a) ≡ Err r → pick b filled (not_admitted words (refusal verdict_no 0)) ≡ not_admitted words r
+        by true f = absurd (let y : ◌≡◌ {A = ℕ} 0 1 = cc in omega arith)
+        by false f = ap (not_admitted words) (let q : refusal verdict_no 0 ≡ r = cc in q)
 
     -- or kept
-    pub kept_in : (told (verdict (set rows (free_at rows) (row_of t)) cores)).refusal ≡ 0
-        → guarded rows words cores (entered rows words t) ≡ record { change = record { at = free_at rows; row = row_of t; answer = told (verdict (set rows (free_at rows) (row_of t)) cores) }; words = written t words }
-    kept_in e = asked ∙ by (verdict (set rows (free_at rows) (row_of t)) cores) e
+    pub kept_in : {v : Result ⊤ Refusal} → v ≡ told says → {at : ℕ} → result_and v place ≡ Ok at → (guarded_entry rows words cores t ≡ filled) × (at ≡ free_at rows)
+    kept_in v {at} e = let w = by says (rw (v, z) at e) in (asked ∙ w.0, w.1 ∙ free-told)
       where
-        by : (b : Bool) → (told b).refusal ≡ 0 → pick b filled (not_admitted rows words (refusal verdict_no 0)) ≡ record { change = record { at = free_at rows; row = row_of t; answer = told b }; words = written t words }
-        by true e = refl
-        by false e = absurd (eqb-false verdict_no 0 refl e)
+        by : (b : Bool) → result_and (told b) (Ok a) ≡ Ok at → (pick b filled (not_admitted words (refusal verdict_no 0)) ≡ filled) × (at ≡ a)
+        by true f = (refl, let q : at ≡ a = cc in q)
+        by false f = absurd (let y : ◌≡◌ {A = ℕ} 0 1 = cc in omega arith)
 
--- the rules before the task, in one outcome
-module _ {A : Type 0} (refuse : Refusal → A) (go : A) where
-  in-turn : (a b c : Outcome) → on_outcome refuse (on_outcome refuse (on_outcome refuse go c) b) a ≡ on_outcome refuse go (in_order a b c)
-  in-turn Accepted Accepted c = refl
-  in-turn Accepted (Refused r) c = refl
-  in-turn (Refused r) b c = refl
+-- admitting: the rules before the record's
+module _ (bytes words : List ℕ) (rows : List Row) (cores cost : ℕ) where
+  -- 26, 16
+  pub refused-first : {r : Refusal} → before_reading (length words) cost ≡ Err r → admission bytes words rows cores cost ≡ not_admitted words r
+  unfolding admission
+  refused-first e = rw e
 
-pub admission-ordered : (bytes words : List ℕ) (rows : List Row) (cores cost : ℕ)
-    → admission bytes words rows cores cost ≡ on_outcome (not_admitted rows words) (on_table (not_admitted rows words) (guarded_entry rows words cores) (task_of bytes cost))
-    (in_order (before_reading (length words) cost) (before_asking (is_sound rows) cores) (reading_of bytes).outcome)
-unfolding admission on_task
-admission-ordered bytes words rows cores cost = in-turn (not_admitted rows words) _ (before_reading (length words) cost) (before_asking (is_sound rows) cores) (reading_of bytes).outcome
+  module _ (first : before_reading (length words) cost ≡ Ok tt) where
+    -- 17, 15
+    pub refused-asking : {r : Refusal} → before_asking (is_sound rows) cores ≡ Err r → admission bytes words rows cores cost ≡ not_admitted words r
+    unfolding admission
+    refused-asking e = rw (first, e)
+
+    -- neither
+    pub asked-for : before_asking (is_sound rows) cores ≡ Ok tt → admission bytes words rows cores cost ≡ on_task (not_admitted words) (guarded_entry rows words cores) bytes cost
+    unfolding admission
+    asked-for e = rw (first, e)

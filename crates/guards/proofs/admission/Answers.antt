@@ -1,70 +1,64 @@
--- `guards::admission` meets its contract: three outcomes are tried in the definition's order, and where none refuses, the board is sound, the
--- core count in its range and the table one that planning can take.
-use mathlib.Core.Path.{◌≡◌, sym, ap, ◌∙◌}
-use mathlib.Core.Bool.{Bool}
-use lib.ListN.{length}
-use Rattle.refusals.specs.declared.Outcome.{Outcome}
-use Rattle.refusals.specs.declared.Outcome.TheVariants.{Accepted}
-use Rattle.refusals.specs.Refusal.{on_outcome}
-use Rattle.refusals.specs.Answer.{answer_of}
+-- `guards::admission` meets its contract: the rules are tried in the definition's order, and where none refuses, the board is sound, the core count in its
+-- range and the table one that planning can take.
+use Rattle.std.proofs.Common.{◌≡◌, sym, ap₂, ◌∙◌, ℕ, length}
+use Rattle.std.specs.Prelude.{Ok}
+use Rattle.refusals.proofs.Out.{goes-out}
 use Rattle.tables.specs.Cost.{costed}
-use Rattle.records.specs.declared.Reading.{Reading}
-use Rattle.records.specs.Reading.{reading_of}
-use Rattle.plans.specs.Calls.{before_reading, on_table}
+use Rattle.plans.specs.Calls.{before_reading, on_table, on_task}
 use Rattle.plans.proofs.Table.{read-plannable}
-use Rattle.plans.proofs.Tests.{ready}
+use Rattle.plans.proofs.Tests.{ready, task-out, task-table}
+use Rattle.boards.specs.declared.Board.{Board}
 use Rattle.boards.specs.Sound.{is_sound}
 use Rattle.boards.specs.Change.{before_asking}
-use Rattle.boards.proofs.Sound.{test-sound}
-use Rattle.boards.proofs.Cases.{may-ask}
-use Rattle.admissions.specs.Admission.{Admission, not_admitted}
-use Rattle.guards.specs.Guarded.{guarded_entry, admission}
-use Rattle.refusals.specs.InOrder.{in_order}
-use Rattle.refusals.proofs.InOrder.{all-accepted}
-use Rattle.guards.proofs.Guarding.{admission-ordered}
+use Rattle.boards.proofs.Cases.{asks-where}
+use Rattle.admissions.specs.Admission.{not_admitted}
 use Rattle.admissions.proofs.Tests.{leaves}
+use Rattle.guards.specs.Guarded.{guarded_entry, admission}
+use Rattle.guards.proofs.Guarding.{refused-first, refused-asking, asked-for}
 use Rattle.guards.proofs.admission.Goals as goal
-use Rattle.guards.proofs.admission.Goals.{After-in_order-outcome, In-Accepted, Start}
+use Rattle.guards.proofs.admission.Goals.{In_ok-before_reading, In_ok-asking}
 
--- what the three kinds of rules come to
-abbrev ruled : (c : Start) → Outcome
-ruled s = let a = s.args in in_order (before_reading (length a.words.now) a.cost) (before_asking (is_sound a.board.rows) a.cores) (reading_of a.bytes.now).outcome
+pub returns-in_err-before_reading-clause-told : goal.returns-in_err-before_reading-clause-told
+returns-in_err-before_reading-clause-told c =
+    let a = c.args in
+    leaves (goes-out _ _ c.from_residual.ensures.1) (refused-first a.bytes.now a.words.now a.board.now.rows a.cores a.cost (sym c.in_err-before_reading.ensures))
 
-ruled-so : (c : After-in_order-outcome) → c.in_order-outcome.result ≡ ruled (goal.at-After-in_order-outcome c).Start
-ruled-so c =
-    let first = c.before_reading-first.ensures in
-    let asking = c.before_asking-asking.ensures ∙ ap (λ (b : Bool). before_asking b c.args.cores) c.load_of-load.ensures.sound in
-    let read = ap (λ (r : Reading). r.outcome) c.read_record-reading.ensures in
-    c.in_order-outcome.ensures ∙ (λ i. in_order (first i) (asking i) (read i))
+first : (c : In_ok-before_reading) → before_reading (length c.args.words.now) c.args.cost ≡ Ok tt
+first c = sym c.in_ok-before_reading.ensures
 
--- a task whose table goes on
-abbrev goes : (c : Start) → Reading → Admission
-goes s r =
-    let a = s.args in
-    let words = a.words.now in
-    on_table (not_admitted a.board.rows words) (guarded_entry a.board.rows words a.cores) (costed r.table a.cost)
+pub returns-in_err-asking-clause-told : goal.returns-in_err-asking-clause-told
+returns-in_err-asking-clause-told c =
+    let a = c.args in
+    leaves (goes-out _ _ c.from_residual-in_err-asking.ensures.1) (refused-asking a.bytes.now a.words.now a.board.now.rows a.cores a.cost (first (goal.at.returns-in_err-asking-clause-told c).In_ok-before_reading) c.in_err-asking.ensures)
 
-decided : (s : Start) {o : Outcome} → ruled s ≡ o → (let a = s.args in admission a.bytes.now a.words.now a.board.rows a.cores a.cost ≡ on_outcome (not_admitted a.board.rows a.words.now) (goes s (reading_of a.bytes.now)) o)
-decided s e = let a = s.args in admission-ordered a.bytes.now a.words.now a.board.rows a.cores a.cost ∙ ap (on_outcome (not_admitted a.board.rows a.words.now) (goes s (reading_of a.bytes.now))) e
+-- the board is asked
+asks : (c : In_ok-asking) → before_asking (is_sound c.args.board.now.rows) c.args.cores ≡ Ok tt
+asks c =
+    let asking = c.in_ok-asking.asking in
+    let so = c.in_ok-asking.ensures in
+    ap₂ (λ (b : Board) (m : ℕ). before_asking (is_sound b.rows) m) (sym so.0) (sym so.1) ∙ asks-where asking.board.now.rows asking.cores asking.sound asking.in_range
 
-pub returns-in_default : goal.returns-in_default
-returns-in_default c =
-    let told = c.in_default.is in
-    leaves c.args.board.rows (decided (goal.at.returns-in_default c).Start (sym (ruled-so (goal.at.returns-in_default c).After-in_order-outcome) ∙ told)) c.unchanged.ensures (c.answer_of.ensures ∙ ap answer_of told)
+-- so the record's task goes on
+going : (c : In_ok-asking) → (let a = c.args in admission a.bytes.now a.words.now a.board.now.rows a.cores a.cost ≡ on_task (not_admitted a.words.now) (guarded_entry a.board.now.rows a.words.now a.cores) a.bytes.now a.cost)
+going c =
+    let a = c.args in
+    asked-for a.bytes.now a.words.now a.board.now.rows a.cores a.cost (first (goal.at-In_ok-asking c).In_ok-before_reading) (asks c)
 
-none : (c : In-Accepted) → ruled (goal.at-In-Accepted c).Start ≡ Accepted
-none c = sym (ruled-so (goal.at-In-Accepted c).After-in_order-outcome) ∙ c.in-Accepted.is
+pub returns-in_err-table-clause-told : goal.returns-in_err-table-clause-told
+returns-in_err-table-clause-told c =
+    let a = c.args in
+    leaves (goes-out _ _ c.from_residual-in_err-table.ensures.1)
+    (going (goal.at.returns-in_err-table-clause-told c).In_ok-asking ∙ task-out (not_admitted a.words.now) (guarded_entry a.board.now.rows a.words.now a.cores) a.bytes.now a.cost c.in_err-table.ensures)
 
 pub admit_table-requires : goal.admit_table-requires
 admit_table-requires c =
-    let a = c.args in
-    let bytes = a.bytes.now in
-    let (first, asking, read) = all-accepted (before_reading (length a.words.now) a.cost) (before_asking (is_sound a.board.rows) a.cores) (reading_of bytes).outcome (none (goal.at.admit_table-requires c).In-Accepted) in
-    let (low, room) = ready (length a.words.now) a.cost first in
-    let (sound, cores) = may-ask a.board.rows a.cores asking in
-    record { plannable = (read-plannable bytes c.read_record-reading.ensures read low, room); sound = (sound, c.load_of-load.ensures.tallied (test-sound sound)); le_cores = cores }
+    let allowed = ready (length c.args.words.now) c.args.cost (first (goal.at.admit_table-requires c).In_ok-before_reading) in
+    (read-plannable c.args.bytes.now c.in_ok-table.ensures allowed.0, allowed.1)
 
-pub returns : goal.returns
-returns c =
-    let so = ap (goes (goal.at.returns c).Start) c.read_record-reading.ensures ∙ sym (decided (goal.at.returns c).Start (none (goal.at.returns c).In-Accepted)) in
-    rw so at c.admit_table.ensures
+pub returns-clause-told : goal.returns-clause-told
+returns-clause-told c =
+    let a = c.args in
+    let so = c.in_ok-asking.ensures in
+    c.admit_table.ensures.told
+    ∙ ap₂ (λ (b : Board) (m : ℕ). on_table (not_admitted a.words.now) (guarded_entry b.rows a.words.now m) (costed c.in_ok-table.table a.cost)) so.0 so.1
+    ∙ sym (going (goal.at.returns-clause-told c).In_ok-asking ∙ task-table (not_admitted a.words.now) (guarded_entry a.board.now.rows a.words.now a.cores) a.bytes.now a.cost c.in_ok-table.ensures)
