@@ -88,6 +88,18 @@ pub record Reading (bytes : List ℕ) (from count : ℕ) (before words : List �
   pub few : i ≤ 3 * count
   pub inside : place ≤ length bytes
 
+-- before the first
+pub reading-none : (bytes : List ℕ) (from count : ℕ) (words : List ℕ) → from ≤ length bytes → Reading bytes from count words words from 0
+reading-none bytes from count words h = record {
+  done = [];
+  size = refl;
+  is = let e : 3 * count - 0 ≡ 3 * count = omega arith in rw e;
+  stored = refl;
+  room = refl;
+  few = omega arith;
+  inside = h;
+}
+
 module _ {bytes : List ℕ} {from count : ℕ} {before words : List ℕ} {place i : ℕ} (p : Reading bytes from count before words place i) where
   -- the next is whole
   pub reading-more : {v next : ℕ} → i < 3 * count → 3 * count ≤ length before → whole_in plan_more bytes place ≡ read v next →

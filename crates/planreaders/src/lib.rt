@@ -1,13 +1,13 @@
 // Reads a plan record into a plan's words.
 #![tactic(auto)]
 
-ghost use Rattle.std.specs.Prelude.{◌≡◌, List, [], ◌∷◌, ℕ, ◌+◌, ◌*◌, ◌≤◌, length, take, drop};
+ghost use Rattle.std.specs.Prelude.{◌≡◌, List, ℕ, ◌+◌, ◌*◌, ◌≤◌, length, take, drop};
 ghost use Rattle.refusals.specs.Answer.{answered};
 ghost use Rattle.tables.specs.Limits.{count_max};
 ghost use Rattle.numbers.specs.Number.{plan_more};
 ghost use Rattle.records.specs.Ranged.{whole_in};
 ghost use Rattle.plans.specs.Words.{words_max};
-ghost use Rattle.planreaders.specs.Plan.{several, values_from, list_at, PlanRead, plan_of};
+ghost use Rattle.planreaders.specs.Plan.{several, list_at, PlanRead, plan_of};
 ghost use Rattle.planreaders.specs.Reading.{filled_with, read_plan_call};
 ghost use Rattle.planreaders.specs.Inner.Listed.{list_step, told};
 
@@ -30,25 +30,6 @@ fn read_value(plan: &[u8], at: usize) -> Result<Read, Refusal>
     )
 }
 
-// The triples of a list whose count was read, to the front of the words: told with the count, and the place after them.
-fn read_triples(plan: &[u8], from: usize, words: &mut [u64], count: u64) -> Result<Read, Refusal>
-    requires { (count ≤ count_max) × (from ≤ length plan.now) × (3 * count ≤ length words.old) }
-    ensures value { result ≡ list_step (values_from (3 * count) (count ∷ []) plan.now from) }
-    ensures by_index { (values : List ℕ) (next : ℕ) → values_from (3 * count) (count ∷ []) plan.now from ≡ several values next → words.new ≡ filled_with (drop 1 values) words.old }
-{
-    let size = 3 * count as usize;
-    let mut at = from;
-    for word in &mut words[..size] {
-        let read = read_value(plan, at)?;
-        *word = read.value;
-        at = read.next;
-    }
-    Ok(Read {
-        value: count,
-        next: at,
-    })
-}
-
 // A list, its triples to the front of the words: told with its count, and the place after it.
 fn read_list(plan: &[u8], at: usize, words: &mut [u64]) -> Result<Read, Refusal>
     requires { (at ≤ length plan.now) × (3 * count_max ≤ length words.old) }
@@ -57,7 +38,13 @@ fn read_list(plan: &[u8], at: usize, words: &mut [u64]) -> Result<Read, Refusal>
 {
     let whole = read_value(plan, at);
     let count = records::in_range(whole, at, Reason::BadPlan.number(), 1, TaskTable::COUNT_MAX)?;
-    read_triples(plan, count.next, words, count.value)
+    let mut next = count.next;
+    for word in &mut words[..3 * count.value as usize] {
+        let read = read_value(plan, next)?;
+        *word = read.value;
+        next = read.next;
+    }
+    Ok(Read { next, ..count })
 }
 
 // What a plan record comes to beside the plan's words: its id, and how many words they are.
