@@ -6,9 +6,9 @@ use Prim.Native.Nat.{ℕ, ◌≤◌, ◌<◌}
 use lib.Dec.{ltb}
 use lib.ListN.{length, take}
 use borrow.Author.Tests.{lt-ltb, le-ltb}
+use Rattle.std.specs.Prelude.{Ok, Err}
 use Rattle.refusals.specs.Numbers.{bad_layout}
 use Rattle.refusals.specs.declared.Refusal.{Refusal}
-use Rattle.refusals.specs.declared.Outcome.TheVariants.{Accepted, Refused}
 use Rattle.refusals.specs.Refusal.{refusal}
 use Rattle.tables.specs.Limits.{period_max}
 use Rattle.tables.specs.Range.{InRange}
@@ -38,16 +38,16 @@ module _ (text : List ℕ) where
       by false = refl
 
   module _ (whole : cut_off text ≡ false) where
-    pub sheet-refused : {r : Refusal} → (graph_in text).outcome ≡ Refused r → graph_sheet text ≡ refused_line r
+    pub sheet-refused : {r : Refusal} → (graph_in text).outcome ≡ Err r → graph_sheet text ≡ refused_line r
     unfolding graph_sheet
     sheet-refused e = rw (whole, e)
 
-    pub sheet-read : (graph_in text).outcome ≡ Accepted → graph_sheet text ≡ on_table refused_line table_sheet (costed (relaxed (graph_in text).table) sheet_cost)
+    pub sheet-read : (graph_in text).outcome ≡ Ok tt → graph_sheet text ≡ on_table refused_line table_sheet (costed (relaxed (graph_in text).table) sheet_cost)
     unfolding graph_sheet
     sheet-read e = rw (whole, e)
 
   -- a table that was read
-  module _ (read : (graph_in text).outcome ≡ Accepted) where
+  module _ (read : (graph_in text).outcome ≡ Ok tt) where
     pub read-range : InRange (graph_in text).table
     read-range = let r = graph-read (take text_max text) sheet_id period_max read in filling-all (graph_in text).table r.runs r.tasks.filling
 

@@ -13,7 +13,7 @@ ghost use Rattle.sheets.specs.Inner.Printable.{SheetRoom};
 ghost use Rattle.graphsheets.specs.Sheet.{graph_in, relaxed, graph_sheet};
 
 use graphs::Graph;
-use refusals::{Answer, Outcome, Refusal};
+use refusals::Reason;
 use tables::TaskTable;
 use texts::Page;
 
@@ -32,22 +32,23 @@ fn read_text(text: &[u8]) -> Graph
 }
 
 // The sheet of a table that was read, planned first for its path and then with twice that.
-fn put_relaxed(page: &mut Page, table: TaskTable)
+fn put_relaxed(page: &mut Page, table: &TaskTable)
     requires room { SheetRoom page.old }
-    requires in_range { InRange table }
-    requires largest { table.period ≡ period_max }
-    ensures { Puts page.old (on_table refused_line table_sheet (costed (relaxed table) sheet_cost)) page.new }
+    requires in_range { InRange table.now }
+    requires largest { table.now.period ≡ period_max }
+    ensures { Puts page.old (on_table refused_line table_sheet (costed (relaxed table.now) sheet_cost)) page.new }
 {
     let mut words = [0u64; plans::WORDS_MAX];
-    let planning = plans::plan_table(&mut words, table, 0, Answer::accepted(0));
-    if planning.answer.refusal != 0 {
-        return sheets::put_refusal(page, Refusal::told_by(planning.answer));
+    match plans::plan_table(&mut words, table, 0, Ok(())) {
+        Ok(planning) => {
+            let relaxed = TaskTable {
+                period: 2 * planning.path,
+                ..*table
+            };
+            sheets::put_table(page, &relaxed);
+        }
+        Err(refusal) => sheets::put_refusal(page, refusal),
     }
-    let relaxed = TaskTable {
-        period: 2 * planning.path,
-        ..table
-    };
-    sheets::put_table(page, relaxed);
 }
 
 // The sheet of a text's task, or the line of its refusal.
@@ -57,11 +58,11 @@ fn put_graph(page: &mut Page, text: &[u8])
 {
     let graph = read_text(text);
     if text.len() > TEXT_MAX && !graph.commented {
-        return sheets::put_refusal(page, Refusal::of(Refusal::BAD_LAYOUT, TEXT_MAX));
+        return sheets::put_refusal(page, Reason::BadLayout.at(TEXT_MAX));
     }
     match graph.outcome {
-        Outcome::Accepted => put_relaxed(page, graph.table),
-        Outcome::Refused(refusal) => sheets::put_refusal(page, refusal),
+        Ok(()) => put_relaxed(page, &graph.table),
+        Err(refusal) => sheets::put_refusal(page, refusal),
     }
 }
 
