@@ -19,14 +19,9 @@ use Rattle.numbers.specs.declared.Fault.{Fault}
 use Rattle.numbers.specs.Number.{number, record_more}
 use Rattle.records.specs.Nodes.{with_node}
 use Rattle.menders.specs.declared.Spot.{Spot}
-use Rattle.menders.specs.declared.Taken.{Taken}
-use Rattle.menders.specs.declared.Listed.{Listed}
-use Rattle.menders.specs.declared.Node.{Node}
-use Rattle.menders.specs.declared.Draft.{Draft}
-use Rattle.menders.specs.Taken.{Step, then_taken, then_of, taken_of, any_form, taken}
+use Rattle.menders.specs.Taken.{Taken, Step, then_taken, then_of, taken_of, any_form, taken}
 use Rattle.menders.specs.Listed.{whole_list, listed, parent_list}
 use Rattle.menders.specs.Draft.{drawn, undrawn, no_more, nodes_taken}
-use Rattle.menders.specs.Inner.Node.{node_of}
 
 -- what was taken, and what was refused
 pub then-read : {A : Type 0} (out : Refusal → A) (step : Step) (more : ℕ → Spot → A) (t : Taken) → step ≡ Ok t → then_taken out step more ≡ more t.value t.spot
@@ -93,25 +88,12 @@ module _ (i n : ℕ) (t : TaskTable) (x y : ℕ) (s : List ℕ) (spot : Spot) wh
   unfolding nodes_taken
   nodes-none h = let e : n - i ≡ 0 = omega arith in rw (e, nodes_taken)
 
-  -- by the node as the code takes it
   pub nodes-more : (least : ℕ) → least ≡ least_execution t.edition → i < n → t.count ≡ n →
       nodes_taken (n - i) i t x y s spot ≡
-      then_of undrawn (node_of least n s spot) λ node.
-      nodes_taken (n - (i + 1)) (i + 1) (with_node t i node.execution node.list.set) (x + node.list.reordered) (y + node.list.dropped) s node.list.spot
-  unfolding nodes_taken node_of then_taken then_of
+      then_taken undrawn (taken bad_execution least execution_max s spot) λ e next.
+      then_of undrawn (parent_list n s next) λ list.
+      nodes_taken (n - (i + 1)) (i + 1) (with_node t i e list.set) (x + list.reordered) (y + list.dropped) s list.spot
+  unfolding nodes_taken
   nodes-more least q h d =
       let e : n - i ≡ suc (n - (i + 1)) = omega arith in
-      rw (e, nodes_taken, ← d, ← q) (by (taken bad_execution least execution_max s spot))
-    where
-      rest : Node → Draft
-      rest node = nodes_taken (t.count - (i + 1)) (i + 1) (with_node t i node.execution node.list.set) (x + node.list.reordered) (y + node.list.dropped) s node.list.spot
-
-      list : (e : ℕ) (found : Result Listed Refusal) → then_of undrawn found (λ list. rest (record { execution = e; list = list })) ≡
-          then_of undrawn (then_of {A = Result Node Refusal} Err found λ list. Ok (record { execution = e; list = list })) rest
-      list e (Ok l) = refl
-      list e (Err r) = refl
-
-      by : (step : Step) → (then_taken undrawn step λ e next. then_of undrawn (parent_list t.count s next) λ list. rest (record { execution = e; list = list })) ≡
-          then_of undrawn (then_taken {A = Result Node Refusal} Err step λ e next. then_of Err (parent_list t.count s next) λ list. Ok (record { execution = e; list = list })) rest
-      by (Ok t) = list t.value _
-      by (Err r) = refl
+      rw (e, nodes_taken, ← d, ← q)

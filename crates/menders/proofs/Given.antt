@@ -29,11 +29,10 @@ use Rattle.records.specs.Nodes.{with_node}
 use Rattle.records.specs.Reading.{headed}
 use Rattle.records.proofs.Expected.{ByRule, by-rule}
 use Rattle.menders.specs.declared.Spot.{Spot}
-use Rattle.menders.specs.declared.Listed.{Listed}
 use Rattle.menders.specs.declared.Draft.{Draft}
 use Rattle.listings.specs.Lists.{list_set, reordered, dropped}
 use Rattle.menders.specs.Taken.{Step, read, then_taken, then_of, taken_of, any_form, taken}
-use Rattle.menders.specs.Listed.{listed, parent_list}
+use Rattle.menders.specs.Listed.{Listed, listed, parent_list}
 use Rattle.menders.specs.Draft.{drawn, undrawn, no_more, nodes_taken, draft_of}
 use Rattle.menders.specs.Given.{Due, range, Next, node_from, parent_from, after, Number, Meets, Refuses, Gives, counts_of}
 use Rattle.menders.specs.Given.Due.{edition, id, period, count, execution, parent_count, parent}

@@ -1,6 +1,6 @@
 -- No step leaves the given record, and a padded number has a byte at least; a list is reordered once at most, and no more parents are dropped than it has.
 use Prim.Native.Nat.{ℕ, zero, suc, ◌+◌, ◌-◌, ◌≤◌}
-use mathlib.Core.Path.{◌≡◌, refl, sym, subst}
+use mathlib.Core.Path.{◌≡◌, refl, sym, ap, subst, ◌∙◌}
 use mathlib.Core.Bool.{Bool, true, false, ◌&&◌}
 use mathlib.Core.List.{List, [], ◌∷◌, ◌++◌}
 use native.Mathlib.Omega.{arith}
@@ -10,23 +10,18 @@ use borrow.Author.Tests.{leb-true}
 use Rattle.std.specs.Prelude.{Result, Ok, Err}
 use Rattle.plain.specs.Pick.{pick}
 use Rattle.refusals.specs.declared.Refusal.{Refusal}
-use Rattle.refusals.specs.Numbers.{bad_parent, bad_execution}
+use Rattle.refusals.specs.Numbers.{bad_parent}
 use Rattle.refusals.specs.Refusal.{refusal}
-use Rattle.tables.specs.Limits.{execution_max}
 use Rattle.numbers.specs.declared.Number.{Number}
 use Rattle.numbers.specs.declared.Fault.{Fault}
 use Rattle.numbers.specs.declared.Fault.TheVariants.{Ended, TooLong, NotShortest}
 use Rattle.numbers.specs.Number.{number, record_more}
 use Rattle.numbers.proofs.Bounds.{value-bounded, padded-bounded}
 use Rattle.menders.specs.declared.Spot.{Spot}
-use Rattle.menders.specs.declared.Taken.{Taken}
-use Rattle.menders.specs.declared.Listed.{Listed}
-use Rattle.menders.specs.declared.Node.{Node}
 use Rattle.listings.specs.Lists.{given_max, firsts, ascends, reordered}
-use Rattle.menders.specs.Taken.{Step, read, then_taken, then_of, taken_of, any_form, taken}
-use Rattle.menders.specs.Listed.{listed, parent_list}
+use Rattle.menders.specs.Taken.{Taken, Step, read, then_taken, taken_of, any_form, taken}
+use Rattle.menders.specs.Listed.{Listed, listed, parent_list}
 use Rattle.menders.specs.Inner.Within.{Within}
-use Rattle.menders.specs.Inner.Node.{node_of}
 use Rattle.menders.proofs.Cases.{any-is}
 
 -- what was taken, inside, with a value that is as P says
@@ -80,15 +75,21 @@ passed broken low high s from t e w =
     let i : (((low ≤ t.value) × (t.value ≤ high)) × Within s t.spot) = subst (Inside s (λ v. (low ≤ v) × (v ≤ high))) (sym e) (taken-inside broken low high s from w) in
     record { is = sym e; least = i.0.0; most = i.0.1; inside = i.1 }
 
+-- a number and a list of the same bytes
+pub along : (broken low high : ℕ) (spot : Spot) {s r : List ℕ} {step : Step} → s ≡ r → step ≡ taken broken low high s spot → taken broken low high r spot ≡ step
+along broken low high spot e q = ap (λ (x : List ℕ). taken broken low high x spot) (sym e) ∙ sym q
+
+pub list-along : (n : ℕ) (spot : Spot) {s r : List ℕ} {found : Result Listed Refusal} → s ≡ r → found ≡ parent_list n s spot → parent_list n r spot ≡ found
+list-along n spot e q = ap (λ (x : List ℕ). parent_list n x spot) (sym e) ∙ sym q
+
 -- a list of at most so many parents
-pub record Few (s : List ℕ) (most : ℕ) (list : Listed) : Type 0 where
-  pub inside : Within s list.spot
+pub record Few (most : ℕ) (list : Listed) : Type 0 where
   pub once : list.reordered ≤ 1
   pub fewer : list.dropped ≤ most
 
-Bounded : List ℕ → (most : ℕ) → Result Listed Refusal → Type 0
-Bounded s most (Ok list) = Few s most list
-Bounded s most (Err r) = Unit
+Bounded : (most : ℕ) → Result Listed Refusal → Type 0
+Bounded most (Ok list) = Few most list
+Bounded most (Err r) = Unit
 
 reordered-once : (given : List ℕ) → reordered given ≤ 1
 reordered-once given = by (ascends (firsts given) 0)
@@ -97,43 +98,25 @@ reordered-once given = by (ascends (firsts given) 0)
     by true = omega arith
     by false = omega arith
 
-weaker : (s : List ℕ) (few most : ℕ) (found : Result Listed Refusal) → few ≤ most → Bounded s few found → Bounded s most found
+weaker : (few most : ℕ) (found : Result Listed Refusal) → few ≤ most → Bounded few found → Bounded most found
 unfolding Bounded
-weaker s few most (Ok list) h b = record { inside = b.inside; once = b.once; fewer = omega (arith, b.fewer) }
-weaker s few most (Err r) h b = tt
+weaker few most (Ok list) h b = record { once = b.once; fewer = omega (arith, b.fewer) }
+weaker few most (Err r) h b = tt
 
-listed-bounded : (k n : ℕ) (s : List ℕ) (spot : Spot) (given : List ℕ) → Within s spot → Bounded s (length given + k) (listed k n s spot given)
+listed-bounded : (k n : ℕ) (s : List ℕ) (spot : Spot) (given : List ℕ) → Bounded (length given + k) (listed k n s spot given)
 unfolding listed then_taken Bounded
-listed-bounded zero n s spot given w = record { inside = w; once = reordered-once given; fewer = omega arith }
-listed-bounded (suc k) n s spot given w = step (taken bad_parent 0 (n - 1) s spot) (taken-inside bad_parent 0 (n - 1) s spot w) λ p next w. listed-bounded k n s next (given ++ p ∷ []) w
+listed-bounded zero n s spot given = record { once = reordered-once given; fewer = omega arith }
+listed-bounded (suc k) n s spot given = step (taken bad_parent 0 (n - 1) s spot) λ p next. listed-bounded k n s next (given ++ p ∷ [])
   where
-    step : (r : Step) → Inside s (λ v. (0 ≤ v) × (v ≤ n - 1)) r → ((p : ℕ) (next : Spot) → Within s next → Bounded s (length (given ++ p ∷ []) + k) (listed k n s next (given ++ p ∷ []))) →
-        Bounded s (length given + suc k) (then_taken Err r λ p next. listed k n s next (given ++ p ∷ []))
-    step (Ok t) i again = weaker s _ _ _ (omega (arith, length-append given (t.value ∷ []))) (again t.value t.spot i.1)
-    step (Err r) i again = tt
+    step : (r : Step) → ((p : ℕ) (next : Spot) → Bounded (length (given ++ p ∷ []) + k) (listed k n s next (given ++ p ∷ []))) →
+        Bounded (length given + suc k) (then_taken Err r λ p next. listed k n s next (given ++ p ∷ []))
+    step (Ok t) again = weaker _ _ _ (omega (arith, length-append given (t.value ∷ []))) (again t.value t.spot)
+    step (Err r) again = tt
 
-parents-bounded : (n : ℕ) (s : List ℕ) (spot : Spot) → Within s spot → Bounded s given_max (parent_list n s spot)
+pub parents-bounded : (n : ℕ) (s : List ℕ) (spot : Spot) (list : Listed) → Ok list ≡ parent_list n s spot → Within s spot → Few given_max list
 unfolding parent_list then_taken Bounded
-parents-bounded n s spot w = step (taken bad_parent 0 given_max s spot) (taken-inside bad_parent 0 given_max s spot w)
+parents-bounded n s spot list e w = subst (Bounded given_max) (sym e) (step (taken bad_parent 0 given_max s spot) (taken-inside bad_parent 0 given_max s spot w))
   where
-    step : (r : Step) → Inside s (λ v. (0 ≤ v) × (v ≤ given_max)) r → Bounded s given_max (then_taken Err r λ k next. listed k n s next [])
-    step (Ok t) i = weaker s _ _ _ (omega (arith, i.0.1)) (listed-bounded t.value n s t.spot [] i.1)
-    step (Err r) i = tt
-
--- and that of a node
-OfNode : List ℕ → Result Node Refusal → Type 0
-OfNode s (Ok node) = Few s given_max node.list
-OfNode s (Err r) = Unit
-
-pub node-bounded : (least n : ℕ) (s : List ℕ) (spot : Spot) (node : Node) → Ok node ≡ node_of least n s spot → Within s spot → Few s given_max node.list
-unfolding node_of then_taken then_of Bounded OfNode
-node-bounded least n s spot node e w = subst (OfNode s) (sym e) (step (taken bad_execution least execution_max s spot) (taken-inside bad_execution least execution_max s spot w))
-  where
-    list : (e : ℕ) (found : Result Listed Refusal) → Bounded s given_max found → OfNode s (then_of {A = Result Node Refusal} Err found λ list. Ok (record { execution = e; list = list }))
-    list e (Ok l) b = b
-    list e (Err r) b = tt
-
-    step : (r : Step) → Inside s (λ v. (least ≤ v) × (v ≤ execution_max)) r →
-        OfNode s (then_taken {A = Result Node Refusal} Err r λ e next. then_of Err (parent_list n s next) λ list. Ok (record { execution = e; list = list }))
-    step (Ok t) i = list t.value _ (parents-bounded n s t.spot i.1)
+    step : (r : Step) → Inside s (λ v. (0 ≤ v) × (v ≤ given_max)) r → Bounded given_max (then_taken Err r λ k next. listed k n s next [])
+    step (Ok t) i = weaker _ _ _ (omega (arith, i.0.1)) (listed-bounded t.value n s t.spot [])
     step (Err r) i = tt

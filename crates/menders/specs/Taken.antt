@@ -9,15 +9,24 @@ use Rattle.numbers.specs.declared.Fault.{Fault}
 use Rattle.numbers.specs.declared.Fault.TheVariants.{Ended, TooLong, NotShortest}
 use Rattle.numbers.specs.Number.{number, record_more}
 use Rattle.menders.specs.declared.Spot.{Spot}
-use Rattle.menders.specs.declared.Taken.{Taken}
 
--- a value and the spot after it, or a refusal
+-- a value and the spot after it
+pub record Taken : Type 0 where
+  pub value : ℕ
+  pub spot : Spot
+
+-- this, or a refusal
 abbrev pub Step : Type 0
 Step = Result Taken Refusal
 
 -- a step that read
 abbrev pub read : (value : ℕ) → Spot → Step
 read value spot = Ok (record { value = value; spot = spot })
+
+-- what the code returns, and the spot that it came to
+abbrev pub step_to : Result ℕ Refusal → Spot → Step
+step_to (Ok value) spot = read value spot
+step_to (Err r) spot = Err r
 
 -- what was taken, and then `more` of its value and the spot after it; "a refusal goes straight out with its place"
 unfoldable pub then_taken : {A : Type 0} → (Refusal → A) → Step → (ℕ → Spot → A) → A

@@ -1,16 +1,14 @@
 // Mends a task record that a sloppy editor wrote: reads it leniently, counting what is to be mended, and has its table written anew.
 #![tactic(auto)]
 
-ghost use Rattle.std.specs.Prelude.{◌≡◌, [], ◌+◌, ◌^◌, ◌<◌, ◌≤◌, length};
+ghost use Rattle.std.specs.Prelude.{◌≡◌, ◌+◌, ◌≤◌, length};
 ghost use Rattle.refusals.specs.Numbers.{number_of};
 ghost use Rattle.tables.specs.Limits.{count_max};
-ghost use Rattle.listings.specs.Lists.{given_max};
-ghost use Rattle.menders.specs.Taken.{any_form, taken};
-ghost use Rattle.menders.specs.Listed.{listed, parent_list};
+ghost use Rattle.menders.specs.Taken.{step_to, any_form, taken};
+ghost use Rattle.menders.specs.Listed.{list_to, parent_list};
 ghost use Rattle.menders.specs.Draft.{drawn_from, nodes_taken, draft_of};
 ghost use Rattle.menders.specs.Mending.{mending_of, mend_call};
 ghost use Rattle.menders.specs.Inner.Within.{Within};
-ghost use Rattle.menders.specs.Inner.Node.{node_of};
 
 use listings::Listing;
 use numbers::{Fault, Number};
@@ -25,29 +23,6 @@ const PARENTS_MAX: u64 = 255;
 pub struct Spot {
     pub at: usize,
     pub padded: u64,
-}
-
-// A value and the spot after it.
-#[derive(Clone, Copy, Debug, PartialEq, Eq)]
-pub struct Taken {
-    pub value: u64,
-    pub spot: Spot,
-}
-
-// A list of parents that was read: its set, what is to be mended of it, and the spot after it.
-#[derive(Clone, Copy, Debug, PartialEq, Eq)]
-pub struct Listed {
-    pub set: u64,
-    pub reordered: u64,
-    pub dropped: u64,
-    pub spot: Spot,
-}
-
-// A node's execution beside its list of parents.
-#[derive(Clone, Copy, Debug, PartialEq, Eq)]
-pub struct Node {
-    pub execution: u64,
-    pub list: Listed,
 }
 
 // What is to be mended of a record: numbers padded, lists reordered, parents dropped.
@@ -82,141 +57,112 @@ pub struct Mending {
     pub counts: Counts,
 }
 
-// A number that was found at a place, with the spot after it and the numbers that are padded so far.
-fn after(number: Number, at: usize, padded: u64) -> Taken
-    requires { at + number.length < 2 ^ 64 }
-    ensures { result ≡ record { value = number.value; spot = record { at = at + number.length; padded = padded } } }
-{
-    Taken {
-        value: number.value,
-        spot: Spot {
-            at: at + number.length,
+// A given record while it is read: its bytes, and the spot up to which its numbers were taken.
+#[derive(Clone, Copy)]
+struct Reader<'a> {
+    bytes: &'a [u8],
+    spot: Spot,
+    ghost within: { Within bytes.now spot },
+}
+
+impl Reader<'_> {
+    // Goes on behind a number that was found here, up to which so many are padded; its value.
+    fn pass(&mut self, number: Number, padded: u64) -> u64
+        requires { (self.old.spot.at + number.length ≤ length self.old.bytes.now) × (padded ≤ self.old.spot.at + number.length) }
+        ensures bytes { self.new.bytes.now ≡ self.old.bytes.now }
+        ensures spot { self.new.spot ≡ record { at = self.old.spot.at + number.length; padded = padded } }
+        ensures value { result ≡ number.value }
+    {
+        self.spot = Spot {
+            at: self.spot.at + number.length,
             padded,
-        },
+        };
+        number.value
     }
-}
 
-// The number at a spot, in any form.
-fn take_any_form(bytes: &[u8], spot: Spot) -> Result<Taken, Refusal>
-    requires { Within bytes.now spot }
-    ensures { result ≡ any_form bytes.now spot }
-{
-    match numbers::read_number(&bytes[spot.at..]) {
-        Ok(number) => Ok(after(number, spot.at, spot.padded)),
-        Err(Fault::NotShortest(number)) => Ok(after(number, spot.at, spot.padded + 1)),
-        Err(Fault::Ended) => Err(Reason::Ended.at(bytes.len())),
-        Err(Fault::TooLong) => Err(Reason::TooLong.at(spot.at)),
+    // The next number, in any form.
+    fn take_any_form(&mut self) -> Result<u64, Refusal>
+        ensures bytes { self.new.bytes.now ≡ self.old.bytes.now }
+        ensures step { step_to result self.new.spot ≡ any_form self.old.bytes.now self.old.spot }
+    {
+        match numbers::read_number(&self.bytes[self.spot.at..]) {
+            Ok(number) => Ok(self.pass(number, self.spot.padded)),
+            Err(Fault::NotShortest(number)) => Ok(self.pass(number, self.spot.padded + 1)),
+            Err(Fault::Ended) => Err(Reason::Ended.at(self.bytes.len())),
+            Err(Fault::TooLong) => Err(Reason::TooLong.at(self.spot.at)),
+        }
     }
-}
 
-// The number at a spot, and only then its range.
-fn take_number(
-    bytes: &[u8],
-    from: Spot,
-    broken: Reason,
-    low: u64,
-    high: u64,
-) -> Result<Taken, Refusal>
-    requires { Within bytes.now from }
-    ensures { result ≡ taken (number_of broken) low high bytes.now from }
-{
-    let taken = take_any_form(bytes, from)?;
-    if !(low..=high).contains(&taken.value) {
-        return Err(broken.at(from.at));
+    // The next number, and only then its range.
+    fn take_number(&mut self, broken: Reason, low: u64, high: u64) -> Result<u64, Refusal>
+        ensures bytes { self.new.bytes.now ≡ self.old.bytes.now }
+        ensures step { step_to result self.new.spot ≡ taken (number_of broken) low high self.old.bytes.now self.old.spot }
+    {
+        let from = self.spot.at;
+        let value = self.take_any_form()?;
+        if !(low..=high).contains(&value) {
+            return Err(broken.at(from));
+        }
+        Ok(value)
     }
-    Ok(taken)
-}
 
-// As many parents as count says, each below n.
-fn take_list(bytes: &[u8], from: Spot, count: u64, n: u64) -> Result<Listed, Refusal>
-    requires { (1 ≤ n) × (n ≤ count_max) × (count ≤ given_max) × Within bytes.now from }
-    ensures { result ≡ listed count n bytes.now from [] }
-{
-    let mut list = Listing::none(from.padded);
-    let mut spot = from;
-    for _ in 0..count {
-        let parent = take_number(bytes, spot, Reason::BadParent, 0, n - 1)?;
-        spot = parent.spot;
-        list = list.with_parent(parent.value, spot.padded);
+    // The next parent count, and that many parents, each below n.
+    fn take_parents(&mut self, n: u64) -> Result<Listing, Refusal>
+        requires { (1 ≤ n) × (n ≤ count_max) }
+        ensures bytes { self.new.bytes.now ≡ self.old.bytes.now }
+        ensures list { list_to result self.new.spot ≡ parent_list n self.old.bytes.now self.old.spot }
+    {
+        let count = self.take_number(Reason::BadParent, 0, PARENTS_MAX)?;
+        let mut list = Listing::none(self.spot.padded);
+        for _ in 0..count {
+            let parent = self.take_number(Reason::BadParent, 0, n - 1)?;
+            list = list.with_parent(parent, self.spot.padded);
+        }
+        Ok(list)
     }
-    Ok(Listed {
-        set: list.set,
-        reordered: list.reordered,
-        dropped: list.dropped,
-        spot,
-    })
-}
 
-// The parent count at a spot, and that many parents.
-fn take_parent_list(bytes: &[u8], from: Spot, n: u64) -> Result<Listed, Refusal>
-    requires { (1 ≤ n) × (n ≤ count_max) × Within bytes.now from }
-    ensures { result ≡ parent_list n bytes.now from }
-{
-    let count = take_number(bytes, from, Reason::BadParent, 0, PARENTS_MAX)?;
-    take_list(bytes, count.spot, count.value, n)
-}
-
-// A node's execution, at least `least`, and its parents, each below n.
-fn take_node(bytes: &[u8], from: Spot, least: u64, n: u64) -> Result<Node, Refusal>
-    requires { (1 ≤ n) × (n ≤ count_max) × Within bytes.now from }
-    ensures { result ≡ node_of least n bytes.now from }
-{
-    let longest = TaskTable::EXECUTION_MAX;
-    let execution = take_number(bytes, from, Reason::BadExecution, least, longest)?;
-    let list = take_parent_list(bytes, execution.spot, n)?;
-    Ok(Node {
-        execution: execution.value,
-        list,
-    })
-}
-
-// The nodes of a table whose head was read, into it, and nothing after them.
-fn take_nodes(bytes: &[u8], from: Spot, head: TaskTable) -> Result<Found, Refusal>
-    requires { (1 ≤ head.count) × (head.count ≤ count_max) × Within bytes.now from }
-    ensures { drawn_from result ≡ nodes_taken head.count 0 head 0 0 bytes.now from }
-{
-    let least = tables::least_execution(head.edition);
-    let mut table = head;
-    let mut counts = Counts::default();
-    let mut spot = from;
-    for v in 0..head.count {
-        let node = take_node(bytes, spot, least, head.count as u64)?;
-        table.execution[v] = node.execution;
-        table.parents[v] = node.list.set;
-        counts.reordered += node.list.reordered;
-        counts.dropped += node.list.dropped;
-        spot = node.list.spot;
+    // The nodes of a table whose head was read, into it, and nothing after them.
+    fn take_nodes(&mut self, head: TaskTable) -> Result<Found, Refusal>
+        requires { (1 ≤ head.count) × (head.count ≤ count_max) }
+        ensures { drawn_from result ≡ nodes_taken head.count 0 head 0 0 self.old.bytes.now self.old.spot }
+    {
+        let least = tables::least_execution(head.edition);
+        let mut table = head;
+        let mut counts = Counts::default();
+        for v in 0..head.count {
+            let longest = TaskTable::EXECUTION_MAX;
+            let execution = self.take_number(Reason::BadExecution, least, longest)?;
+            let list = self.take_parents(head.count as u64)?;
+            table.execution[v] = execution;
+            table.parents[v] = list.set;
+            counts.reordered += list.reordered;
+            counts.dropped += list.dropped;
+        }
+        if self.spot.at < self.bytes.len() {
+            return Err(Reason::BytesFollow.at(self.spot.at));
+        }
+        counts.padded = self.spot.padded;
+        Ok(Found { table, counts })
     }
-    if spot.at < bytes.len() {
-        return Err(Reason::BytesFollow.at(spot.at));
-    }
-    counts.padded = spot.padded;
-    Ok(Found { table, counts })
 }
 
 // The table of a given record, and its counts.
 fn take_table(bytes: &[u8]) -> Result<Found, Refusal>
     ensures { drawn_from result ≡ draft_of bytes.now }
 {
-    let begin = Spot { at: 0, padded: 0 };
-    let edition = take_number(bytes, begin, Reason::BadEdition, 1, TaskTable::EDITION_MAX)?;
-    let id = take_number(bytes, edition.spot, Reason::BadId, 1, TaskTable::ID_MAX)?;
-    let period = take_number(bytes, id.spot, Reason::BadPeriod, 1, TaskTable::PERIOD_MAX)?;
-    let count = take_number(
-        bytes,
-        period.spot,
-        Reason::BadCount,
-        1,
-        TaskTable::COUNT_MAX,
-    )?;
-    let head = TaskTable {
-        edition: edition.value,
-        id: id.value,
-        period: period.value,
-        count: count.value as usize,
+    let spot = Spot { at: 0, padded: 0 };
+    let mut given = Reader { bytes, spot };
+    let edition = given.take_number(Reason::BadEdition, 1, TaskTable::EDITION_MAX)?;
+    let id = given.take_number(Reason::BadId, 1, TaskTable::ID_MAX)?;
+    let period = given.take_number(Reason::BadPeriod, 1, TaskTable::PERIOD_MAX)?;
+    let count = given.take_number(Reason::BadCount, 1, TaskTable::COUNT_MAX)?;
+    given.take_nodes(TaskTable {
+        edition,
+        id,
+        period,
+        count: count as usize,
         ..TaskTable::empty()
-    };
-    take_nodes(bytes, count.spot, head)
+    })
 }
 
 // The table that a given record holds, with its counts; or the refusal of the first rule that it breaks.
