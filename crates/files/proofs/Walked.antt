@@ -15,7 +15,6 @@ use Rattle.refusals.specs.Refusal.{refusal}
 use Rattle.numbers.specs.Number.{record_more}
 use Rattle.numbers.specs.Form.{Led, Whole, Ends, Long, Padded}
 use Rattle.numbers.proofs.Forms as forms
-use Rattle.numbers.proofs.Cases.{clash}
 use Rattle.records.specs.declared.Read.{Read}
 use Rattle.records.specs.Step.{Step, read}
 use Rattle.records.proofs.Cases.{then-read, then-refused}
@@ -133,10 +132,10 @@ module _ (file : List ℕ) where
         by : {s : Step} → Stands at s → s ≡ read size begin → (begin + size ≤ length file) × (at < begin + size) × Laid file (records ++ part_of file begin size ∷ []) (begin + size)
         by (here {size = v} {n = n} w h) e = let p : at_once v (at + n) ≡ at_once size begin = cc in let q : v ≡ size = ap (λ (r : Read). r.value) p in let b : at + n ≡ begin = ap (λ (r : Read). r.next) p in
             rw (← q, ← b) (h, omega (arith, forms.form-some w.0), more l w h)
-        by (over w h) e = clash cc
-        by (cut f) e = clash cc
-        by (wide f) e = clash cc
-        by (thin f) e = clash cc
+        by (over w h) e = cc
+        by (cut f) e = cc
+        by (wide f) e = cc
+        by (thin f) e = cc
 
     -- so where no whole record stands at the place, these are all
     pub laid-all : ((size n : ℕ) → Whole record_more (drop at file) size n → length file < at + n + size) → (walk file).records ≡ records
@@ -207,5 +206,5 @@ module _ (file : List ℕ) where
   refused-rule r q = by comes q
     where
       by : {w : Walk} → Comes w → w.outcome ≡ Err r → ByRule (Refuses file) r
-      by (whole l) e = clash cc
+      by (whole l) e = cc
       by (stopped l f) e = by-rule (Refuses file) f e

@@ -13,7 +13,6 @@ use Rattle.plain.proofs.Picks.{true-false}
 use Rattle.refusals.specs.Numbers.{bad_id, bad_period, bad_layout}
 use Rattle.refusals.specs.Refusal.{refusal}
 use Rattle.tables.specs.Limits.{id_max, period_max}
-use Rattle.numbers.proofs.Cases.{clash}
 use Rattle.graphwords.specs.Words.{Word, words_at}
 use Rattle.graphwords.specs.Decimal.{is_digit, is_decimal, decimal_after, decimal_of, is_comment}
 use Rattle.graphwords.proofs.Capped.{digit_low}
@@ -88,13 +87,13 @@ module _ (m n : ℕ) where
   unfolding reading spelt
   alike none [] [] d e (word due) = (refl, refl)
   alike none [] [] d e (done t) = (refl, refl)
-  alike none [] (v ∷ vs) d e next = clash (cc)
-  alike none (w ∷ ws) vs d e next = clash (cc)
-  alike (as_is a z) [] vs d e next = clash (cc)
-  alike (as_is a z) (w ∷ ws) [] d e next = clash (cc)
+  alike none [] (v ∷ vs) d e next = cc
+  alike none (w ∷ ws) vs d e next = cc
+  alike (as_is a z) [] vs d e next = cc
+  alike (as_is a z) (w ∷ ws) [] d e next = cc
   alike (as_is a z) (w ∷ ws) (v ∷ vs) d e next = one_more w v ws vs next (says-self (cc)) (λ next. alike z ws vs (cc) (cc) next)
-  alike (in-front k a p z) [] vs d e next = clash (cc)
-  alike (in-front k a p z) (w ∷ ws) [] d e next = clash (cc)
+  alike (in-front k a p z) [] vs d e next = cc
+  alike (in-front k a p z) (w ∷ ws) [] d e next = cc
   alike (in-front k a p z) (w ∷ ws) (v ∷ vs) d e next =
       let x : a ≡ w.letters = cc in
       let y : replicate k 48 ++ a ≡ v.letters = cc in

@@ -13,7 +13,6 @@ use Rattle.tables.specs.declared.TaskTable.{TaskTable}
 use Rattle.tables.specs.Limits.{id_max, period_max, execution_max, least_execution}
 use Rattle.tables.specs.Runs.{SomeRuns, all_zero}
 use Rattle.tables.proofs.Runs.{runs-some}
-use Rattle.numbers.proofs.Cases.{clash}
 use Rattle.records.specs.Nodes.{with_node}
 use Rattle.records.specs.Reading.{headed}
 use Rattle.records.proofs.Answers.{Filling, filling-none, filling-more}
@@ -116,8 +115,8 @@ module _ (text : List ℕ) (id period : ℕ) (e : (graph_of text id period).outc
   graph-read = by (begun text id period) e
     where
       by : {g : Graph} → Begun text id period g → g.outcome ≡ Ok tt → Read text id period g.table
-      by (bad-id o) q = clash (cc)
-      by (bad-period l h o) q = clash (cc)
+      by (bad-id o) q = cc
+      by (bad-period l h o) q = cc
       by (ranged l h k g) q = let f = read-gives text id period q in record { gives = f.0; tasks = given-tasks id period l h k g f.0; runs = f.1 }
 
   pub graph-filling : Filling (graph_of text id period).table.count (graph_of text id period).table

@@ -18,7 +18,6 @@ use Rattle.tables.specs.declared.TaskTable.{TaskTable}
 use Rattle.tables.specs.Table.{empty_table}
 use Rattle.tables.specs.Runs.{SomeRuns, all_zero}
 use Rattle.tables.proofs.Runs.{zero-all, all-zero, runs-some, some_runs}
-use Rattle.numbers.proofs.Cases.{clash}
 use Rattle.records.proofs.Expected.{ByRule, by-rule}
 use Rattle.graphwords.specs.Words.{Word, words_at}
 use Rattle.graphwords.specs.Decimal.{is_decimal, decimal_of, is_comment}
@@ -128,20 +127,20 @@ module _ (text : List ℕ) (id period : ℕ) where
     where
       by : Comes → ByRule (Refuses text id period) r
       by (refuses f) = by-rule (Refuses text id period) f (sym (rule-refused f) ∙ q)
-      by (gives g runs) = clash (let e = ap (λ (x : Graph). x.outcome) (sym (gives-read g runs).1) ∙ q in cc)
+      by (gives g runs) = let e = ap (λ (x : Graph). x.outcome) (sym (gives-read g runs).1) ∙ q in cc
 
   pub refused-table : (r : Refusal) → whole.outcome ≡ Err r → whole.table ≡ empty_table
   refused-table r q = by comes
     where
       by : Comes → whole.table ≡ empty_table
       by (refuses f) = ap (λ (x : Graph). x.table) (rule-read f).1
-      by (gives g runs) = clash (let e = ap (λ (x : Graph). x.outcome) (sym (gives-read g runs).1) ∙ q in cc)
+      by (gives g runs) = let e = ap (λ (x : Graph). x.outcome) (sym (gives-read g runs).1) ∙ q in cc
 
   pub read-gives : whole.outcome ≡ Ok tt → Gives text id period whole.table × SomeRuns whole.table
   read-gives q = by comes
     where
       by : Comes → Gives text id period whole.table × SomeRuns whole.table
-      by (refuses f) = clash (let e = sym (rule-refused f) ∙ q in cc)
+      by (refuses f) = let e = sym (rule-refused f) ∙ q in cc
       by (gives g runs) = let same = ap (λ (x : Graph). x.table) (gives-read g runs).1 in rw same (g, runs)
 
   -- whether a comment ended the reading: it is told where all tasks were read, whatever their times are

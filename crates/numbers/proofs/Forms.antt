@@ -17,7 +17,7 @@ use Rattle.numbers.specs.Number.{before, number, worth}
 use Rattle.numbers.specs.Form.{Form, AnyForm, Led, Whole, Ends, Long, Padded}
 use Rattle.numbers.specs.Form.Form.{sole, first}
 use Rattle.numbers.specs.Form.Led.{none, byte}
-use Rattle.numbers.proofs.Cases.{clash, last, longer}
+use Rattle.numbers.proofs.Cases.{last, longer}
 
 -- a form has a byte, and its bytes are of the list, whether or not it is the shortest
 pub any_some : {s : List ℕ} {v n : ℕ} → AnyForm s v n → 0 < n
@@ -115,6 +115,6 @@ read_whole more s v n e = by (found more s)
     by (whole u m w) =
         let q : worth u m ≡ worth v n = let p = sym (whole-read more w.0 w.1) ∙ e in cc in
         let x : u ≡ v = ap (λ (r : Number). r.value) q in let y : m ≡ n = ap (λ (r : Number). r.length) q in rw (← x, ← y) w
-    by (ends f) = clash (let q = sym (ends_read more f.2 f.1) ∙ e in cc)
-    by (long f) = clash (let q = sym (long-read more f.1) ∙ e in cc)
-    by (padded f) = clash (let q = sym (padded-read more f.4 f.2 f.3).2 ∙ e in cc)
+    by (ends f) = let q = sym (ends_read more f.2 f.1) ∙ e in cc
+    by (long f) = let q = sym (long-read more f.1) ∙ e in cc
+    by (padded f) = let q = sym (padded-read more f.4 f.2 f.3).2 ∙ e in cc

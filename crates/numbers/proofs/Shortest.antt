@@ -1,16 +1,19 @@
 -- A value has one shortest form: below 128 it is its own sole byte; any other has v % 128 in its first byte, with the top bit set, and the
 -- one form of v / 128 after it.
-use Prim.Native.Nat.{ℕ, zero, suc, ◌+◌, ◌*◌, ◌/◌, ◌%◌, ◌^◌, ◌≤◌, ◌<◌, suc-le-suc}
+use Prim.Native.Nat.{ℕ, zero, suc, max, ◌+◌, ◌-◌, ◌*◌, ◌/◌, ◌%◌, ◌^◌, ◌≤◌, ◌<◌, suc-le-suc}
 use mathlib.Core.Path.{◌≡◌, refl, sym, ap, subst, ◌∙◌}
+use mathlib.Core.Logic.{◌⊎◌, inl, inr, ⊎_elim}
 use mathlib.Core.Bool.{Bool, true, false}
 use mathlib.Core.List.{List, [], ◌∷◌, ◌++◌}
-use native.Mathlib.Nat.{le_of_suc-le-suc, pow-succ'}
+use native.Mathlib.Nat.{le_of_suc-le-suc, pow-succ', pow-le-pow_right}
 use native.Mathlib.Omega.{arith}
-use Rattle.std.specs.Prelude.{Ok}
 use lib.ListN.{length, take}
 use lib.Dec.{ltb}
 use borrow.Author.Tests.{lt-ltb, le-ltb, ltb-true, ltb-false}
+use Rattle.std.specs.Prelude.{Ok}
+use Rattle.std.proofs.lemmas.Nat.{pow-add}
 use Rattle.plain.specs.Pick.{pick}
+use Rattle.plain.proofs.Lists.{lt-or-ge}
 use Rattle.numbers.specs.Number.{number, worth}
 use Rattle.numbers.specs.Form.{Form, Whole}
 use Rattle.numbers.specs.Shortest.{Bytes, shortest}
@@ -81,3 +84,25 @@ shortest-length (suc more) v = by (shortest-length more (v / 128)) (ltb v 128)
     by : length (shortest more (v / 128)) ≤ suc more → (t : Bool) → length (pick t (v ∷ []) ((128 + v % 128) ∷ shortest more (v / 128))) ≤ suc (suc more)
     by ih true = omega arith
     by ih false = suc-le-suc ih
+
+-- a byte for each seven bits: 2 ^ k is the greatest power of 2 in v
+few-bits : (k v : ℕ) → v < 128 → 2 ^ k ≤ max v 1 → k / 7 ≡ 0
+few-bits k v h l = by (lt-or-ge k 7)
+  where
+    by : (k < 7) ⊎ (7 ≤ k) → k / 7 ≡ 0
+    by (inl s) = omega arith
+    by (inr g) = absurd (omega (arith, pow-le-pow_right {n = 2} (omega arith) g))
+
+pub shortest-bits : (more v k : ℕ) → v < 128 ^ suc more → 2 ^ k ≤ max v 1 → v < 2 * 2 ^ k → length (shortest more v) ≡ k / 7 + 1
+unfolding shortest
+shortest-bits zero v k h l g = omega (arith, few-bits k v h l)
+shortest-bits (suc more) v k h l g = by (shortest-bits more (v / 128) (k - 7) (omega (arith, pow-succ' 128 (suc more)))) (lt-or-ge v 128)
+  where
+    by : (2 ^ (k - 7) ≤ max (v / 128) 1 → v / 128 < 2 * 2 ^ (k - 7) → length (shortest more (v / 128)) ≡ (k - 7) / 7 + 1) → (v < 128) ⊎ (128 ≤ v) →
+        length (pick (ltb v 128) (v ∷ []) ((128 + v % 128) ∷ shortest more (v / 128))) ≡ k / 7 + 1
+    by ih (inl s) = rw (lt-ltb v 128 s) (omega (arith, few-bits k v s l))
+    by ih (inr s) =
+        let many : 7 ≤ k = ⊎_elim (λ (f : k < 7). let low : k ≤ 6 = omega arith in absurd (omega (arith, pow-le-pow_right {n = 2} (omega arith) low))) (λ (m : 7 ≤ k). m) (lt-or-ge k 7) in
+        let e : 7 + (k - 7) ≡ k = omega arith in
+        let p : 2 ^ k ≡ 128 * 2 ^ (k - 7) = rw e at (pow-add 2 7 (k - 7)) in
+        rw (le-ltb v 128 s) (omega (arith, ih (omega arith) (omega arith)))

@@ -100,18 +100,11 @@ pub fn read_number(rest: &[u8]) -> Result<Number, Fault>
     }
 }
 
-// How many bytes a word takes in shortest form.
+// How many bytes a word takes in shortest form: one for each seven bits that are begun, and one for 0.
 pub fn length_of(value: u64) -> usize
     ensures { result ≡ length (shortest word_more value) }
 {
-    let mut rest = value;
-    let mut length: usize = 1;
-    // A `while`: `successors(..).count()` over the same quotients is no plainer.
-    while 128 <= rest {
-        rest /= 128;
-        length += 1;
-    }
-    length
+    value.max(1).ilog2() as usize / 7 + 1
 }
 
 // Writes a word in shortest form at a place, and tells the place after it.

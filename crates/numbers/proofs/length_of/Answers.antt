@@ -1,20 +1,9 @@
--- `numbers::length_of` meets its contract: each byte that is counted leaves the form of what is left.
-use mathlib.Core.Path.{ap}
-use native.Mathlib.Omega.{arith}
-use lib.ListN.{length as len}
+-- `numbers::length_of` meets its contract: the greatest power of 2 in a word tells how many of its bits are there, and each byte of its form has seven of them.
+use Rattle.std.proofs.Common.{sym, arith}
 use Rattle.numbers.specs.Inner.Word.{word_more}
-use Rattle.numbers.proofs.Shortest.{shortest-last, shortest-next, shortest-length}
+use Rattle.numbers.proofs.Shortest.{shortest-bits}
 use Rattle.numbers.proofs.length_of.Goals as goal
 
-pub loop-rest-init : goal.loop-rest-init
-loop-rest-init c = (word_more, omega arith, omega arith)
-
-pub overflow_add-length : goal.overflow_add-length
-overflow_add-length c = let i = c.loop-rest.invariant in omega (arith, i.2, shortest-length word_more c.args.value)
-
-pub loop-rest-preserved : goal.loop-rest-preserved
-loop-rest-preserved c = let i = c.loop-rest.invariant in let n = shortest-next i.0 _ c.loop-rest-test.true i.1 in
-    (n.0, n.2, omega (arith, i.2, ap len n.1))
-
 pub returns : goal.returns
-returns c = let i = c.loop-rest.invariant in omega (arith, i.2, ap len (shortest-last i.0 _ c.loop-rest-test.false))
+returns c = let m = c.max.ensures in let p = c.ilog2.ensures in
+    sym (shortest-bits word_more _ _ (omega arith) (omega (arith, m, p.power_le)) (omega (arith, m, p.next_power_gt)))
