@@ -1,5 +1,6 @@
 -- Our own plan, written as a plan record, is accepted: its words are small, since what they hold is bounded by the limits, so it is written; what is written reads back as the
 -- same words; and these keep the rules.
+use Rattle.std.specs.Prelude.{Ok}
 use mathlib.Core.Path.{◌≡◌, refl, sym, ap, ap₂, ◌∙◌}
 use mathlib.Core.List.{List, [], ◌++◌, append-nil}
 use Prim.Native.Nat.{ℕ, zero, suc, ◌+◌, ◌≤◌, ◌<◌}
@@ -9,7 +10,6 @@ use lib.ListN.{length, take, drop}
 use lib.Seq.{take_at}
 use Rattle.plain.specs.At.{at}
 use Rattle.plain.proofs.Sums.{sum-under}
-use Rattle.refusals.specs.declared.Outcome.TheVariants as outcome
 use Rattle.tables.specs.declared.TaskTable.{TaskTable}
 use Rattle.tables.specs.Limits.{count_max, density_max, cost_max}
 use Rattle.records.specs.Reading.{reading_of}
@@ -134,7 +134,7 @@ module _ {t : TaskTable} (ok : Planned t) where
     count-front = ap (λ (w : List ℕ). at w 2) front
 
 -- so the judge accepts it, for the record that it was made from
-module _ (bytes : List ℕ) (cost : ℕ) (read : (reading_of bytes).outcome ≡ outcome.Accepted) (fits : cost ≤ cost_max) (ok : Planned (task_of bytes cost)) (old words : List ℕ) where
+module _ (bytes : List ℕ) (cost : ℕ) (read : (reading_of bytes).outcome ≡ Ok tt) (fits : cost ≤ cost_max) (ok : Planned (task_of bytes cost)) (old words : List ℕ) where
   pub own-judged : (task_of bytes cost).id < value_limit → words_max ≤ length (written (task_of bytes cost) old) → words_max ≤ length words → (let t = task_of bytes cost in let own = written t old in
       judge_call bytes (plan_record_of t.id own) words cost ≡ filled words t.id (take (count_of own) own))
   own-judged small h room =

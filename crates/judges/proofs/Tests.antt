@@ -1,4 +1,5 @@
 -- The tests of the judge's functions are those of its definition, each in its place.
+use Rattle.std.specs.Prelude.{Result, Ok, Err, ⊤}
 use mathlib.Core.Path.{◌≡◌, refl, sym, ap, ◌∙◌}
 use mathlib.Core.Bool.{Bool, true, false}
 use mathlib.Core.List.{List}
@@ -12,8 +13,6 @@ use Rattle.plain.specs.Pick.{pick}
 use Rattle.refusals.specs.Numbers.{few_words, bad_plan, broken_rule, high_cost}
 use Rattle.refusals.specs.declared.Refusal.{Refusal}
 use Rattle.refusals.specs.declared.Answer.{Answer}
-use Rattle.refusals.specs.declared.Outcome.{Outcome}
-use Rattle.refusals.specs.declared.Outcome.TheVariants.{Accepted, Refused}
 use Rattle.refusals.specs.Refusal.{refusal}
 use Rattle.refusals.specs.After.{After}
 use Rattle.tables.specs.declared.TaskTable.{TaskTable}
@@ -21,11 +20,14 @@ use Rattle.tables.specs.Limits.{cost_max}
 use Rattle.plans.specs.Words.{words_max}
 use Rattle.plans.specs.Calls.{before_reading, on_table, on_task, unplanned, planned}
 use Rattle.plans.specs.Inner.Drawn.{outcome_of}
-use Rattle.plans.proofs.Tests.{not-both, table-refused, table-accepted}
+use Rattle.plans.proofs.Tests.{not-both}
 use Rattle.plans.proofs.Cases.{Before, before}
 use Rattle.plans.proofs.Cases.Before.{dear, few, reads}
 use Rattle.planreaders.specs.Plan.{on_plan, plan_of}
 use Rattle.planreaders.specs.Reading.{filled_with, unread, filled}
+use Rattle.trials.specs.declared.Rule.{Rule}
+use Rattle.trials.specs.declared.Rule.TheVariants.{OverFits, SameCut, SharedOut, Summed, Followed, Halved, Thinned, Rounded}
+use Rattle.trials.specs.Told.{number_of}
 use Rattle.judges.specs.Judging.{broken_of, is_of, judged, judged_for, judge_call}
 
 -- the words of a plan: another id, another node count, a broken rule, none
@@ -53,27 +55,16 @@ module _ (words : List ℕ) (t : TaskTable) (id : ℕ) (plan : List ℕ) where
       unfolding judged
       is-kept z = rw (of, ← is, eq-eqb k 0 z)
 
-  -- a refusal leaves the words as they were, an acceptance fills them
-  module _ {a : Answer} (is : a ≡ (judged words t id plan).answer) where
-    pub judged-out : (a.refusal ≡ 0 → ⊥) → record { answer = a; lent = words } ≡ judged words t id plan
-    unfolding judged
-    judged-out n = by (is_of t id plan) (eqb (broken_of t plan) 0) is
-      where
-        by : (b c : Bool) → a ≡ (pick b (pick c (filled words id plan) (unread words (refusal broken_rule (broken_of t plan)))) (unread words (refusal bad_plan 0))).answer →
-            record { answer = a; lent = words } ≡ pick b (pick c (filled words id plan) (unread words (refusal broken_rule (broken_of t plan)))) (unread words (refusal bad_plan 0))
-        by true true e = absurd (n (ap (λ (x : Answer). x.refusal) e))
-        by true false e = rw e
-        by false c e = rw e
-
-    pub judged-in : a.refusal ≡ 0 → record { answer = a; lent = filled_with plan words } ≡ judged words t id plan
-    unfolding judged
-    judged-in z = by (is_of t id plan) (eqb (broken_of t plan) 0) is
-      where
-        by : (b c : Bool) → a ≡ (pick b (pick c (filled words id plan) (unread words (refusal broken_rule (broken_of t plan)))) (unread words (refusal bad_plan 0))).answer →
-            record { answer = a; lent = filled_with plan words } ≡ pick b (pick c (filled words id plan) (unread words (refusal broken_rule (broken_of t plan)))) (unread words (refusal bad_plan 0))
-        by true true e = rw e
-        by true false e = absurd (eqb-false broken_rule 0 refl (sym (ap (λ (x : Answer). x.refusal) e) ∙ z))
-        by false c e = absurd (eqb-false bad_plan 0 refl (sym (ap (λ (x : Answer). x.refusal) e) ∙ z))
+-- no rule is numbered 0
+pub number-some : (rule : Rule) → number_of rule ≡ 0 → ⊥
+number-some OverFits e = omega arith
+number-some SameCut e = omega arith
+number-some SharedOut e = omega arith
+number-some Summed e = omega arith
+number-some Followed e = omega arith
+number-some Halved e = omega arith
+number-some Thinned e = omega arith
+number-some Rounded e = omega arith
 
 -- too few words, and enough
 module _ (plan words : List ℕ) (t : TaskTable) where
@@ -84,15 +75,6 @@ module _ (plan words : List ℕ) (t : TaskTable) where
   pub words-enough : words_max ≤ length words → judged_for plan words t ≡ on_plan (unread words) (judged words t) (plan_of plan)
   unfolding judged_for
   words-enough h = rw (le-ltb (length words) words_max h)
-
--- no refusal before the reading is told as an acceptance
-pub before-some : (words cost : ℕ) (r : Refusal) → before_reading words cost ≡ Refused r → r.number ≡ 0 → ⊥
-before-some words cost r = by (before words cost)
-  where
-    by : {o : Outcome} → Before words cost o → o ≡ Refused r → r.number ≡ 0 → ⊥
-    by (dear h) e z = let q : refusal high_cost 0 ≡ r = cc in omega (arith, ap (λ (x : Refusal). x.number) q)
-    by (few c h) e z = let q : refusal few_words 0 ≡ r = cc in omega (arith, ap (λ (x : Refusal). x.number) q)
-    by (reads c h) e z = not-both e refl
 
 -- a cost above its limit, and within
 module _ (bytes plan words : List ℕ) (cost : ℕ) where
@@ -105,19 +87,10 @@ module _ (bytes plan words : List ℕ) (cost : ℕ) where
   cost-fits h = rw (le-ltb cost_max cost h)
 
   -- 26 is tried as planning tries it, with words enough
-  pub cost-out : {r : Refusal} → before_reading words_max cost ≡ Refused r → judge_call bytes plan words cost ≡ unread words r
+  pub cost-out : {r : Refusal} → before_reading words_max cost ≡ Err r → judge_call bytes plan words cost ≡ unread words r
   cost-out {r} = by (before words_max cost)
     where
-      by : {o : Outcome} → Before words_max cost o → o ≡ Refused r → judge_call bytes plan words cost ≡ unread words r
+      by : {o : Result ⊤ Refusal} → Before words_max cost o → o ≡ Err r → judge_call bytes plan words cost ≡ unread words r
       by (dear h) e = let q : refusal high_cost 0 ≡ r = cc in cost-high h ∙ ap (unread words) q
       by (few c h) e = absurd (omega arith)
       by (reads c h) e = absurd (not-both e refl)
-
--- a table whose planning is refused goes by that refusal, with the words as they were
-pub table-out : (go : TaskTable → After (List ℕ)) (own words : List ℕ) (t : TaskTable) {a : Answer} → a ≡ (on_table (unplanned own) (planned own) t).answer → (a.refusal ≡ 0 → ⊥) →
-    record { answer = a; lent = words } ≡ on_table (unread words) go t
-table-out go own words t {a} answered n = by (outcome_of t) refl
-  where
-    by : (o : Outcome) → outcome_of t ≡ o → record { answer = a; lent = words } ≡ on_table (unread words) go t
-    by Accepted e = absurd (n (rw (answered, table-accepted (unplanned own) (planned own) t e)))
-    by (Refused r) e = rw (answered, table-refused (unplanned own) (planned own) t e) (sym (table-refused (unread words) go t e))

@@ -1,155 +1,122 @@
 // Judges a supplier's plan of a task.
 #![tactic(auto)]
 
-ghost use Rattle.std.specs.Prelude.{◌≡◌, List, ℕ, ◌≤◌, length};
+ghost use Rattle.std.specs.Prelude.{◌≡◌, ◌≤◌, length, IfOk};
 ghost use Rattle.plain.specs.At.{at};
+ghost use Rattle.refusals.specs.Answer.{answered};
 ghost use Rattle.tables.specs.Cost.{costed};
 ghost use Rattle.tables.specs.Inner.Plannable.{Plannable};
 ghost use Rattle.plans.specs.Words.{words_max};
 ghost use Rattle.plans.specs.Calls.{on_table, task_of};
 ghost use Rattle.planreaders.specs.Reading.{unread};
+ghost use Rattle.trials.specs.Told as trial;
 ghost use Rattle.judges.specs.Judging.{broken_of, judged, judged_for, judge_call};
-ghost use Rattle.judges.specs.Inner.Judged.{OwnIn, PlanShaped, Judged};
+ghost use Rattle.judges.specs.Inner.Judged.{OwnIn, PlanShaped, Judged, told};
 
-use records::Step;
-use refusals::{Answer, Outcome, Refusal};
+use refusals::{Reason, Refusal};
 use tables::TaskTable;
+use trials::Rule;
 
-// What judging comes to: the answer, and where that is no refusal, the task's period, work and path.
-#[derive(Clone, Copy)]
+// What an accepted plan comes to: its id, and its task's period, work and path.
+#[derive(Clone, Copy, Debug, PartialEq, Eq)]
 pub struct Judging {
-    pub answer: Answer,
+    pub id: u64,
     pub period: u64,
     pub work: u64,
     pub path: u64,
 }
 
-impl Judging {
-    // A refusal: nothing is told beside it.
-    fn refused(answer: Answer) -> Self
-        ensures { result.answer ≡ answer }
+// A task whose steps pay a cost, its work, and the words of our own plan of it, which tell its cut and who runs where.
+#[derive(Clone, Copy)]
+struct Task<'a> {
+    table: &'a TaskTable,
+    cost: u64,
+    work: u64,
+    own: &'a [u64],
+}
+
+impl Task<'_> {
+    // The first rule that a plan of the task breaks.
+    fn broken_rule(self, plan: &[u64]) -> Option<Rule>
+        requires { OwnIn (costed self.table.now self.cost) self.own.now self.work × PlanShaped plan.now × (at plan.now 2 ≡ self.table.now.count) }
+        ensures { trial.told result ≡ broken_of (costed self.entry.table.now self.entry.cost) plan.now }
     {
-        Self {
-            answer,
-            period: 0,
-            work: 0,
-            path: 0,
+        let table = self.table;
+        let mut executions = table.execution;
+        tables::add_cost(&mut executions, table.count, self.cost);
+        trials::first_broken(
+            self.own,
+            plan,
+            &table.parents,
+            &executions,
+            table.period,
+            self.work,
+        )
+    }
+
+    // Judges the words of a plan that was read: 24 where it is not the task's, 25 where a rule is broken, else they are written, and its id is told.
+    fn judge_words(self, plan: &[u64], id: u64, words: &mut [u64]) -> Result<u64, Refusal>
+        requires { OwnIn (costed self.table.now self.cost) self.own.now self.work × PlanShaped plan.now × (words_max ≤ length words.old) }
+        ensures { record { answer = answered result; lent = words.new } ≡ judged words.old (costed self.entry.table.now self.entry.cost) id plan.now }
+    {
+        if id != self.table.id || plan[2] != self.table.count as u64 {
+            return Err(Reason::BadPlan.at(0));
         }
+        if let Some(rule) = self.broken_rule(plan) {
+            return Err(Reason::BrokenRule.at(rule.number() as usize));
+        }
+        words[..plan.len()].copy_from_slice(plan);
+        Ok(id)
     }
-}
 
-// The number of the first rule that the plan breaks; 0 where it breaks none. Our own plan tells the task's cut, and who runs where.
-fn broken_rule(own: &[u64], plan: &[u64], table: TaskTable, cost: u64, work: u64) -> u64
-    requires { OwnIn (costed table cost) own.now work × PlanShaped plan.now × (at plan.now 2 ≡ table.count) }
-    ensures { result ≡ broken_of (costed table cost) plan.now }
-{
-    let n = table.count;
-    let parents = table.parents;
-    let written = table.execution;
-    let mut executions = written;
-    tables::add_cost(&mut executions, n, cost);
-    trials::first_broken(own, plan, &parents, &executions, table.period, work)
-}
-
-// The answer to the words of a plan that was read: 24 where it is not the task's, 25 where a rule is broken, else its id. Nothing is written yet.
-fn try_plan(own: &[u64], plan: &[u64], id: u64, table: TaskTable, cost: u64, work: u64) -> Answer
-    requires { OwnIn (costed table cost) own.now work × PlanShaped plan.now }
-    ensures { (words : List ℕ) → result ≡ (judged words (costed table cost) id plan.now).answer }
-{
-    if id != table.id {
-        return Answer::refused(Refusal::of(Refusal::BAD_PLAN, 0));
-    }
-    if plan[2] != table.count as u64 {
-        return Answer::refused(Refusal::of(Refusal::BAD_PLAN, 0));
-    }
-    let broken = broken_rule(own, plan, table, cost, work);
-    if broken != 0 {
-        return Answer::refused(Refusal::of(Refusal::BROKEN_RULE, broken as usize));
-    }
-    Answer::accepted(id)
-}
-
-// The same, and the words of a plan that is accepted are written.
-fn judge_words(
-    own: &[u64],
-    plan: &[u64],
-    id: u64,
-    words: &mut [u64],
-    table: TaskTable,
-    cost: u64,
-    work: u64,
-) -> Answer
-    requires { OwnIn (costed table cost) own.now work × PlanShaped plan.now × (words_max ≤ length words.old) }
-    ensures { record { answer = result; lent = words.new } ≡ judged words.old (costed table cost) id plan.now }
-{
-    let answer = try_plan(own, plan, id, table, cost, work);
-    if answer.refusal != 0 {
-        return answer;
-    }
-    planreaders::copy_words(plan, plan.len(), words);
-    answer
-}
-
-// The answer to a plan record, read aside: the lent words are written only where all of it is accepted.
-fn judge_plan(
-    own: &[u64],
-    plan: &[u8],
-    words: &mut [u64],
-    table: TaskTable,
-    cost: u64,
-    work: u64,
-) -> Answer
-    requires { OwnIn (costed table cost) own.now work }
-    ensures { record { answer = result; lent = words.new } ≡ judged_for plan.now words.old (costed table cost) }
-{
-    if words.len() < plans::WORDS_MAX {
-        return Answer::refused(Refusal::of(Refusal::FEW_WORDS, 0));
-    }
-    let mut found = [0u64; plans::WORDS_MAX];
-    let step = planreaders::read_words(plan, &mut found);
-    match step {
-        Step::Refused(refusal) => Answer::refused(refusal),
-        Step::Read {
-            value: id,
-            next: count,
-        } => judge_words(own, &found[..count], id, words, table, cost, work),
+    // Judges a plan record, which is read aside: the lent words are written only where all of it is accepted.
+    fn judge_plan(self, plan: &[u8], words: &mut [u64]) -> Result<u64, Refusal>
+        requires { OwnIn (costed self.table.now self.cost) self.own.now self.work }
+        ensures { record { answer = answered result; lent = words.new } ≡ judged_for plan.now words.old (costed self.entry.table.now self.entry.cost) }
+    {
+        if words.len() < plans::WORDS_MAX {
+            return Err(Reason::FewWords.at(0));
+        }
+        let mut found = [0u64; plans::WORDS_MAX];
+        let record = planreaders::read_words(plan, &mut found)?;
+        self.judge_words(&found[..record.words], record.id, words)
     }
 }
 
 // The task's own plan is made aside as well, for its cut; 10 and 11 are its refusals.
-fn judge_table(plan: &[u8], words: &mut [u64], table: TaskTable, cost: u64) -> Judging
-    requires { Plannable (costed table cost) }
-    ensures words_after { record { answer = result.answer; lent = words.new } ≡ on_table (unread words.old) (judged_for plan.now words.old) (costed table cost) }
-    ensures judged { result.answer.refusal ≡ 0 → Judged (costed table cost) result }
+fn judge_table(
+    plan: &[u8],
+    words: &mut [u64],
+    table: &TaskTable,
+    cost: u64,
+) -> Result<Judging, Refusal>
+    requires { Plannable (costed table.now cost) }
+    ensures words_after { record { answer = told result; lent = words.new } ≡ on_table (unread words.old) (judged_for plan.now words.old) (costed table.now cost) }
+    ensures judged { IfOk result (Judged (costed table.now cost)) }
 {
     let mut own = [0u64; plans::WORDS_MAX];
-    let planning = plans::plan_table(&mut own, table, cost, Answer::accepted(0));
-    let planned = planning.answer;
-    if planned.refusal != 0 {
-        return Judging::refused(planned);
-    }
-    let answer = judge_plan(&own, plan, words, table, cost, planning.work);
-    Judging {
-        answer,
+    let planning = plans::plan_table(&mut own, table, cost, Ok(()))?;
+    let task = Task {
+        table,
+        cost,
+        work: planning.work,
+        own: &own,
+    };
+    let id = task.judge_plan(plan, words)?;
+    Ok(Judging {
+        id,
         period: table.period,
         work: planning.work,
         path: planning.path,
-    }
+    })
 }
 
 // Judges a plan record for a task record, each step with the cost.
-pub fn judge(bytes: &[u8], plan: &[u8], words: &mut [u64], cost: u64) -> Judging
-    ensures words_after { record { answer = result.answer; lent = words.new } ≡ judge_call bytes.now plan.now words.old cost }
-    ensures judged { result.answer.refusal ≡ 0 → Judged (task_of bytes.now cost) result }
+pub fn judge(bytes: &[u8], plan: &[u8], words: &mut [u64], cost: u64) -> Result<Judging, Refusal>
+    ensures words_after { record { answer = told result; lent = words.new } ≡ judge_call bytes.now plan.now words.old cost }
+    ensures judged { IfOk result (Judged (task_of bytes.now cost)) }
 {
-    let first = plans::before_reading(plans::WORDS_MAX, cost); // 26 alone: 16 comes after the task record's
-    let Outcome::Accepted = first else {
-        return Judging::refused(refusals::answer_of(first));
-    };
-    let reading = records::read_record(bytes);
-    let outcome = reading.outcome;
-    let Outcome::Accepted = outcome else {
-        return Judging::refused(refusals::answer_of(outcome));
-    };
-    judge_table(plan, words, reading.table, cost)
+    plans::before_reading(plans::WORDS_MAX, cost)?; // 26 alone: 16 comes after the task record's
+    let table = records::read_table(bytes)?;
+    judge_table(plan, words, &table, cost)
 }

@@ -1,6 +1,9 @@
 -- What the functions hand to each other.
-use Rattle.std.specs.Prelude.{◌≡◌, List, ℕ, ◌^◌, ◌≤◌, ◌<◌, length}
+use Rattle.std.specs.Prelude.{◌≡◌, List, ℕ, ◌^◌, ◌≤◌, ◌<◌, length, Result, Ok, Err}
 use Rattle.plain.specs.At.{at}
+use Rattle.refusals.specs.declared.Refusal.{Refusal}
+use Rattle.refusals.specs.declared.Answer.{Answer}
+use Rattle.refusals.specs.Answer.{accepted, refused}
 use Rattle.tables.specs.declared.TaskTable.{TaskTable}
 use Rattle.tables.specs.Limits.{count_max}
 use Rattle.plans.specs.Diagram.{work, path}
@@ -29,3 +32,8 @@ pub record Judged (t : TaskTable) (j : Judging) : Type 0 where
   pub period : j.period ≡ t.period
   pub work : j.work ≡ work t
   pub path : j.path ≡ path t
+
+-- the answer that a judging is told by: the plan's id, or the refusal
+abbrev pub told : Result Judging Refusal → Answer
+told (Ok j) = accepted j.id
+told (Err r) = refused r
