@@ -1,30 +1,25 @@
 -- The tests of the judge's functions are those of its definition, each in its place.
-use Rattle.std.specs.Prelude.{Result, Ok, Err, ⊤}
-use mathlib.Core.Path.{◌≡◌, refl, sym, ap, ◌∙◌}
-use mathlib.Core.Bool.{Bool, true, false}
+use Rattle.std.specs.Prelude.{Result, Err, ⊤}
+use mathlib.Core.Path.{◌≡◌, refl, ap, ◌∙◌}
+use mathlib.Core.Bool.{true, false}
 use mathlib.Core.List.{List}
 use Prim.Native.Nat.{ℕ, ◌≤◌, ◌<◌}
-use lib.Dec.{eqb}
 use lib.ListN.{length}
 use native.Mathlib.Omega.{arith}
-use borrow.Author.Tests.{eqb-false, eq-eqb, ne_eqb, lt-ltb, le-ltb}
+use borrow.Author.Tests.{eq-eqb, ne_eqb, lt-ltb, le-ltb}
 use Rattle.plain.specs.At.{at}
-use Rattle.plain.specs.Pick.{pick}
 use Rattle.refusals.specs.Numbers.{few_words, bad_plan, broken_rule, high_cost}
 use Rattle.refusals.specs.declared.Refusal.{Refusal}
-use Rattle.refusals.specs.declared.Answer.{Answer}
 use Rattle.refusals.specs.Refusal.{refusal}
-use Rattle.refusals.specs.After.{After}
 use Rattle.tables.specs.declared.TaskTable.{TaskTable}
 use Rattle.tables.specs.Limits.{cost_max}
 use Rattle.plans.specs.Words.{words_max}
-use Rattle.plans.specs.Calls.{before_reading, on_table, on_task, unplanned, planned}
-use Rattle.plans.specs.Inner.Drawn.{outcome_of}
+use Rattle.plans.specs.Calls.{before_reading, on_task}
 use Rattle.plans.proofs.Tests.{not-both}
 use Rattle.plans.proofs.Cases.{Before, before}
 use Rattle.plans.proofs.Cases.Before.{dear, few, reads}
 use Rattle.planreaders.specs.Plan.{on_plan, plan_of}
-use Rattle.planreaders.specs.Reading.{filled_with, unread, filled}
+use Rattle.planreaders.specs.Reading.{unread, filled}
 use Rattle.trials.specs.declared.Rule.{Rule}
 use Rattle.trials.specs.declared.Rule.TheVariants.{OverFits, SameCut, SharedOut, Summed, Followed, Halved, Thinned, Rounded}
 use Rattle.trials.specs.Told.{number_of}
