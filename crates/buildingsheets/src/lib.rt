@@ -44,13 +44,12 @@ fn put_numbers(page: &mut Page, refused: &[u64; NUMBERS])
     }
 }
 
-// The counts of a building, and how its walk ended.
+// The counts of a building, and how its walk ended. C reads a building, so that its answer is no `Result`: refusal 0 is acceptance.
 fn put_building(page: &mut Page, building: Building)
     requires { SheetRoom page.old }
     ensures { Puts page.old (building_text building) page.new }
 {
-    let counts = building.counts;
-    let answer = building.answer;
+    let Building { answer, counts } = building;
     put_counts(
         page,
         &[

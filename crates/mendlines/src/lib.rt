@@ -11,7 +11,7 @@ use menders::Mending;
 use refusals::Refusal;
 use texts::Page;
 
-// The counts, or the refusal.
+// The counts, or the refusal. C reads a mending, so that its answer is no `Result`: refusal 0 is acceptance.
 fn put_mending(page: &mut Page, mending: Mending)
     requires { SheetRoom page.old }
     ensures { Puts page.old (mend_line mending) page.new }
