@@ -3,8 +3,7 @@
 use Rattle.std.specs.Prelude.{List, ℕ}
 use Rattle.refusals.specs.After.{After}
 use Rattle.boards.specs.declared.Row.{Row}
-use Rattle.boards.specs.declared.Change.{Change}
-use Rattle.boards.specs.Change.{changed, withdrawn, asked}
+use Rattle.boards.specs.Change.{changed, answer_to, withdrawn, asked}
 use Rattle.overheads.specs.ToEnd.{asked_to_end}
 use Rattle.admissions.specs.Admission.{Admission, noting}
 use Rattle.guards.specs.Guarded.{admission}
@@ -16,7 +15,7 @@ pub record Lent : Type 0 where
 
 -- what an admission comes to on rows: its answer, its words, and the rows with its change
 abbrev pub admitted : List Row → Admission → After Lent
-admitted rows a = record { answer = a.change.answer; lent = record { words = a.words; rows = changed rows a.change } }
+admitted rows a = record { answer = answer_to a.change; lent = record { words = a.words; rows = changed rows a.change } }
 
 -- "admitting writes the same plan words and returns the number (0..15) of the row it filled"
 abbrev pub note_call : List ℕ → List ℕ → List Row → (cost : ℕ) → After Lent
@@ -28,9 +27,7 @@ admit_call bytes words rows cores cost = admitted rows (admission bytes words ro
 
 -- "withdrawing returns the number of the row it freed"
 abbrev pub withdraw_call : List Row → ℕ → After (List Row)
-withdraw_call rows id =
-    let c : Change = withdrawn rows id in
-    record { answer = c.answer; lent = changed rows c }
+withdraw_call rows id = record { answer = answer_to (withdrawn rows id); lent = changed rows (withdrawn rows id) }
 
 -- "asking returns yes or no and writes nothing"
 abbrev pub ask_call : List Row → ℕ → After (List Row)

@@ -1,38 +1,40 @@
 // The public calls over lent buffers; `planner_c` exports them to C.
 #![tactic(auto)]
 
-ghost use Rattle.std.specs.Prelude.{◌≡◌, ◌<◌, length};
+ghost use Rattle.std.specs.Prelude.{◌≡◌, ◌≢◌, ◌<◌, length, IfOk, MatchOption};
 ghost use Rattle.boards.specs.Row.{rows_max};
-ghost use Rattle.boards.specs.Change.{changed};
+ghost use Rattle.boards.specs.Change.{changed, answer_to};
 ghost use Rattle.planner.specs.Allows.{PlanAllows, NoteAllows, AdmitAllows, WithdrawAllows, AskAllows, AskToEndAllows, WriteAllows, MendAllows, GraphAllows, BuildingAllows, ReadPlanAllows, WritePlanAllows, JudgeAllows};
 
 use boards::{Board, Change, ROWS, Row};
 use buildings::Building;
 use menders::Mending;
-use refusals::Answer;
+use refusals::{Answer, Refusal};
 
-// The lent rows, by value.
-fn rows_of(board: &[Row]) -> Board
-    requires { length board.now ≡ rows_max }
-    ensures { result.rows ≡ board.now }
+// The lent rows as a board, where there are 16.
+fn board_of(lent: &[Row]) -> Option<Board>
+    ensures { MatchOption result (length lent.now ≢ rows_max) (λ board. board.rows ≡ lent.now) }
 {
-    let mut rows = Board::empty().rows;
-    let mut i: usize = 0;
-    while i < rows.len() {
-        rows[i] = board[i];
-        i += 1;
+    if lent.len() != ROWS {
+        return None;
     }
-    Board { rows }
+    let mut board = Board::empty();
+    board.rows.copy_from_slice(lent);
+    Some(board)
 }
 
-// The one row that a change has, written at its place, and its answer.
-fn apply(board: &mut [Row], change: Change) -> Answer
-    requires { change.at < length board.old }
-    ensures { (result ≡ change.answer) × (board.new ≡ changed board.old change) }
+// What a call answers; the one row that it changes is written at its place.
+fn apply(board: &mut [Row], told: Result<Change, Refusal>) -> Answer
+    requires { IfOk told (λ change. change.at < length board.old) }
+    ensures { (result ≡ answer_to told) × (board.new ≡ changed board.old told) }
 {
-    let at = change.at;
-    board[at] = change.row;
-    change.answer
+    match told {
+        Ok(Change { at, row }) => {
+            board[at] = row;
+            Answer::accepted(at as u64)
+        }
+        Err(refusal) => Answer::refused(refusal),
+    }
 }
 
 // Plans the task of a record, each step with the cost, into the words; the value is the number of words.
@@ -46,11 +48,11 @@ pub fn planner_plan(bytes: &[u8], words: &mut [u64], cost: u64) -> Answer
 pub fn planner_note(bytes: &[u8], words: &mut [u64], board: &mut [Row], cost: u64) -> Answer
     ensures { NoteAllows bytes.now words.old board.old cost (record { answer = result; lent = record { words = words.new; rows = board.new } }) }
 {
-    if board.len() != ROWS {
-        return admissions::no_board(words.len(), cost);
-    }
-    let change = admissions::noting(bytes, words, rows_of(board), cost);
-    apply(board, change)
+    let Some(lent) = board_of(board) else {
+        return Answer::refused(admissions::no_board(words.len(), cost));
+    };
+    let told = admissions::noting(bytes, words, &lent, cost);
+    apply(board, told)
 }
 
 // The same for a gateway with so many cores: a task with which the verdict for them would be no is turned away.
@@ -63,42 +65,42 @@ pub fn planner_admit(
 ) -> Answer
     ensures { AdmitAllows bytes.now words.old board.old cores cost (record { answer = result; lent = record { words = words.new; rows = board.new } }) }
 {
-    if board.len() != ROWS {
-        return admissions::no_board(words.len(), cost); // 15 comes after 17
-    }
-    let change = guards::admission(bytes, words, rows_of(board), cores, cost);
-    apply(board, change)
+    let Some(lent) = board_of(board) else {
+        return Answer::refused(admissions::no_board(words.len(), cost)); // 15 comes after 17
+    };
+    let told = guards::admission(bytes, words, &lent, cores, cost);
+    apply(board, told)
 }
 
 // Takes the task off the board; the value is the row freed.
 pub fn planner_withdraw(board: &mut [Row], id: u64) -> Answer
     ensures { WithdrawAllows board.old id (record { answer = result; lent = board.new }) }
 {
-    if board.len() != ROWS {
-        return boards::unsound();
-    }
-    let change = boards::withdrawn(rows_of(board), id);
-    apply(board, change)
+    let Some(lent) = board_of(board) else {
+        return Answer::refused(boards::unsound());
+    };
+    let told = boards::withdrawn(&lent, id);
+    apply(board, told)
 }
 
 // The verdict for a number of cores: the value is 1 for yes and 0 for no. The board is lent to be read, so its rows after the call are those before it.
 pub fn planner_ask(board: &[Row], cores: u64) -> Answer
     ensures { AskAllows board.now cores (record { answer = result; lent = board.now }) }
 {
-    if board.len() != ROWS {
-        return boards::unsound();
-    }
-    boards::asked(rows_of(board), cores)
+    let Some(lent) = board_of(board) else {
+        return Answer::refused(boards::unsound());
+    };
+    boards::asked(&lent, cores)
 }
 
 // The verdict for a number of cores where steps run to their end, answered and lent as planner_ask.
 pub fn planner_ask_to_end(board: &[Row], cores: u64) -> Answer
     ensures { AskToEndAllows board.now cores (record { answer = result; lent = board.now }) }
 {
-    if board.len() != ROWS {
-        return boards::unsound();
-    }
-    overheads::asked_to_end(rows_of(board), cores)
+    let Some(lent) = board_of(board) else {
+        return Answer::refused(boards::unsound());
+    };
+    overheads::asked_to_end(&lent, cores)
 }
 
 // Writes the record of a task from its executions and its parent sets, one of each for a node; the value is the number of bytes.

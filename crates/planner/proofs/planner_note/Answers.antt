@@ -1,11 +1,6 @@
 -- On no board of 16 rows the call is refused as its rule says, and the words and the rows stay.
-use Rattle.std.proofs.Common.{sym, subst}
-use Rattle.refusals.specs.declared.Answer.{Answer}
-use Rattle.planner.specs.Allows.{NoteAllows}
 use Rattle.planner.proofs.NoBoard.{note-none}
 use Rattle.planner.proofs.planner_note.Goals as goal
 
-pub returns-then-board-ne-ROWS : goal.returns-then-board-ne-ROWS
-returns-then-board-ne-ROWS c =
-    subst (λ (a : Answer). NoteAllows c.args.bytes.now c.args.words.now c.args.board.now c.args.cost (record { answer = a; lent = record { words = c.args.words.now; rows = c.args.board.now } })) (sym c.no_board.ensures)
-    (note-none c.args.bytes.now c.args.words.now c.args.board.now c.args.cost c.if-board-ne-ROWS.true)
+pub returns-in_default : goal.returns-in_default
+returns-in_default c = rw (c.refused.ensures, c.no_board.ensures) (note-none c.args.bytes.now c.args.words.now c.args.board.now c.args.cost c.in_default.ensures)
