@@ -157,5 +157,5 @@ pub fn planner_judge(bytes: &[u8], plan: &[u8], words: &mut [u64], cost: u64) ->
     ensures { JudgeAllows bytes.now plan.now words.old cost (record { answer = result; lent = words.new }) }
 {
     let judging = judges::judge(bytes, plan, words, cost);
-    judging.answer
+    Answer::from(judging.map(|judged| judged.id))
 }
