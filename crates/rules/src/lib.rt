@@ -16,8 +16,8 @@ use tables::TaskTable;
 // The greatest Q of specs/: twice the work of 64 nodes that all run as long as they may.
 const OVER_MAX: u64 = 2 * TaskTable::COUNT_MAX * (TaskTable::EXECUTION_MAX + TaskTable::COST_MAX);
 
-// A plan's words, as they are lent: at most 64 segments and 64 nodes, with room for all. The public rules take bare words: docs/CONTRACTS.md names
-// them, so their parameters may not narrow.
+// A plan's words, as they are lent: at most 64 segments and 64 nodes, with room for all. The public rules take bare words, with `PlanIn` and `SharedIn`
+// in their clauses: docs/CONTRACTS.md names them, so they are no inner functions, and what they take may not narrow.
 #[derive(Clone, Copy)]
 struct Plan<'a> {
     words: &'a [u64],
