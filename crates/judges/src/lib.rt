@@ -26,8 +26,8 @@ pub struct Judging {
     pub path: u64,
 }
 
-// A task whose steps pay a cost, its work, and the words of our own plan of it, which tell its cut and who runs where. `OwnIn` is no ghost field: it has
-// more than one proof (it names the words before the plan was written), and truncated each answer had to open it first, which is no plainer.
+// A task whose steps pay a cost, its work, and the words of our own plan of it, which tell its cut and who runs where. `OwnIn` is no ghost field,
+// tried: it has more than one proof, and out of a truncated one `RulesIn` follows only with a proof that it has but one, which is no plainer.
 #[derive(Clone, Copy)]
 struct Task<'a> {
     table: &'a TaskTable,
