@@ -10,7 +10,7 @@ use Rattle.refusals.specs.Refusal.{refusal}
 use Rattle.numbers.specs.Number.{record_more}
 use Rattle.numbers.specs.Shortest.{shortest}
 use Rattle.numbers.proofs.Forms as forms
-use Rattle.records.specs.declared.Step.TheVariants.{Read}
+use Rattle.records.specs.Step.{read}
 use Rattle.files.specs.File.{record_at}
 use Rattle.files.specs.Laid.{file_of}
 use Rattle.files.proofs.Cases.{length-is, record-here}
@@ -19,7 +19,7 @@ use Rattle.planchecks.specs.Pair.{on_pair}
 use Rattle.planchecks.proofs.Pairs.{second-followed, second-last, pair-first}
 
 -- a record that stands is found
-found : {file bytes rest : List ℕ} {at n : ℕ} → Stood file bytes rest at n → record_at file at ≡ Read (length bytes) (at + n)
+found : {file bytes rest : List ℕ} {at n : ℕ} → Stood file bytes rest at n → record_at file at ≡ read (length bytes) (at + n)
 found {file} {bytes} {at = at} {n} s = record-here file at (length bytes) (at + n) (length-is file at _ (forms.whole-read record_more s.whole.0 s.whole.1)) s.room
 
 module _ {A : Type 0} (refuse : Refusal → A) (go : (bytes plan : List ℕ) → A) (bytes plan rest : List ℕ) where

@@ -6,11 +6,10 @@ ghost use Rattle.texts.specs.Inner.Page.{Puts};
 ghost use Rattle.sheets.specs.Lines.{refused_line};
 ghost use Rattle.sheets.specs.Printed.{printed};
 ghost use Rattle.sheets.specs.Inner.Printable.{SheetRoom};
-ghost use Rattle.planchecks.specs.Pair.{on_second, on_pair};
+ghost use Rattle.planchecks.specs.Pair.{on_pair, two_records, contents};
 ghost use Rattle.planchecks.specs.Sheet.{pair_text, check_sheet};
 
-use records::Step;
-use refusals::Refusal;
+use refusals::{Reason, Refusal};
 use sheets::Head;
 use texts::Page;
 
@@ -23,47 +22,46 @@ fn put_judged(page: &mut Page, bytes: &[u8], plan: &[u8])
     ensures { Puts page.old (pair_text bytes.now plan.now) page.new }
 {
     let mut words = [0u64; plans::WORDS_MAX];
-    let judging = judges::judge(bytes, plan, &mut words, 0);
-    if judging.answer.refusal != 0 {
-        return sheets::put_refusal(page, Refusal::told_by(judging.answer));
-    }
-    let head = Head {
-        id: judging.answer.value,
-        period: judging.period,
-        work: judging.work,
-        path: judging.path,
-    };
-    sheets::put_sheet(page, head, &words);
-}
-
-// The same of two records: the first lies from begin on, and the second behind it, with nothing after it.
-fn put_second(page: &mut Page, input: &[u8], begin: usize, size: usize)
-    requires room { SheetRoom page.old }
-    requires inside { begin + size ≤ length input.now }
-    ensures { Puts page.old (on_second refused_line pair_text input.now begin size) page.new }
-{
-    match files::record_at(input, begin + size) {
-        Step::Refused(refusal) => sheets::put_refusal(page, refusal),
-        Step::Read { value, next } => {
-            let last = value as usize;
-            let end = next + last;
-            if end < input.len() {
-                return sheets::put_refusal(page, Refusal::of(Refusal::BYTES_FOLLOW, end));
-            }
-            let bytes = files::part_of(input, begin, size);
-            put_judged(page, bytes, files::part_of(input, next, last));
+    match judges::judge(bytes, plan, &mut words, 0) {
+        Ok(judging) => {
+            let head = Head {
+                id: judging.id,
+                period: judging.period,
+                work: judging.work,
+                path: judging.path,
+            };
+            sheets::put_sheet(page, head, &words);
         }
+        Err(refusal) => sheets::put_refusal(page, refusal),
     }
 }
 
-// The same of an input, from its first record on.
+// The two records of an input: the second lies behind the first, with nothing after it.
+fn two_records(input: &[u8]) -> Result<(&[u8], &[u8]), Refusal>
+    ensures { contents result ≡ two_records input.now }
+{
+    let first = files::record_at(input, 0)?;
+    let size = first.value as usize;
+    let second = files::record_at(input, first.next + size)?;
+    let last = second.value as usize;
+    let end = second.next + last;
+    if end < input.len() {
+        return Err(Reason::BytesFollow.at(end));
+    }
+    Ok((
+        files::part_of(input, first.next, size),
+        files::part_of(input, second.next, last),
+    ))
+}
+
+// The sheet of the plan that an input holds behind its task, or the line of a refusal.
 fn put_pair(page: &mut Page, input: &[u8])
     requires { SheetRoom page.old }
     ensures { Puts page.old (on_pair refused_line pair_text input.now) page.new }
 {
-    match files::record_at(input, 0) {
-        Step::Refused(refusal) => sheets::put_refusal(page, refusal),
-        Step::Read { value, next } => put_second(page, input, next, value as usize),
+    match two_records(input) {
+        Ok((bytes, plan)) => put_judged(page, bytes, plan),
+        Err(refusal) => sheets::put_refusal(page, refusal),
     }
 }
 
