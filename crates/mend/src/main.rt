@@ -8,20 +8,17 @@ use std::io::Write;
 const RECORD_MAX: usize = 4_361;
 
 fn main(rt: HostRuntime) {
-    let mut stdin = rt.stdin();
     let mut given = [0u8; 65_809];
     let mut bytes = [0u8; RECORD_MAX];
     let mut out = [0u8; sheets::SHEET_MAX];
-    let got = inputs::read_full(&mut stdin, &mut given);
-    if got == 0 {
-        if !inputs::at_end(&mut stdin) {
-            eprintln!(rt; "mend: standard input cannot be read").ok();
-            return;
-        }
-    }
+    let Some(got) = inputs::read_input(&mut rt.stdin(), &mut given) else {
+        eprintln!(rt; "mend: standard input cannot be read").ok();
+        return;
+    };
     let mending = menders::mend(&given[..got], &mut bytes);
-    let answer = mending.answer;
-    let n = mendlines::line(mending, &mut out);
-    rt.stdout().write_all(&bytes[..answer.value as usize]).ok();
-    rt.stderr().write_all(&out[..n]).ok();
+    let count = mendlines::line(mending, &mut out);
+    rt.stdout()
+        .write_all(&bytes[..mending.answer.value as usize])
+        .ok();
+    rt.stderr().write_all(&out[..count]).ok();
 }
