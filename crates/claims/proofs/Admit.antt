@@ -7,13 +7,13 @@ use Prim.Native.Nat.{ℕ, ◌≤◌, ◌<◌}
 use native.Mathlib.Omega.{arith}
 use lib.ListN.{set}
 use borrow.Author.Tests.{eqb-false}
-use Rattle.refusals.specs.Numbers.{id_stands, board_full, bad_cores, few_words, unsound_board, verdict_no, high_cost}
+use Rattle.refusals.specs.Numbers.{bad_cores, few_words, unsound_board, verdict_no, high_cost}
 use Rattle.tables.specs.declared.TaskTable.{TaskTable}
 use Rattle.plans.specs.Calls.{task_of}
 use Rattle.boards.specs.declared.Row.{Row}
 use Rattle.boards.specs.Sound.{Sound}
 use Rattle.boards.specs.Find.{free_at}
-use Rattle.boards.specs.Change.{changed}
+use Rattle.boards.specs.Change.{answer_to, changed}
 use Rattle.admissions.specs.Admission.{Admission, row_of, entered}
 use Rattle.admissions.proofs.Keeping.{entered-sound}
 use Rattle.guards.specs.Guarded.{admission}
@@ -42,18 +42,18 @@ module _ (bytes words : List ℕ) (rows : List Row) (cores cost : ℕ) where
   task = task_of bytes cost
 
   -- its rules decide its answer
-  decides : Decides (admit_rules bytes words rows cores cost) (Lowest (IsFree rows)) (admission bytes words rows cores cost).change.answer
+  decides : Decides (admit_rules bytes words rows cores cost) (Lowest (IsFree rows)) (answer_to (admission bytes words rows cores cost).change)
   decides = go (admitted bytes words rows cores cost)
     where
       -- 12, 13 as noting gives them; 20, or the row that noting fills
-      entry : Sound rows → {x y : Admission} → Entering rows words task x → Guarding rows words cores x y → Decides (board_rules task rows ++ guard_rules task rows cores) (Lowest (IsFree rows)) y.change.answer
+      entry : Sound rows → {x y : Admission} → Entering rows words task x → Guarding rows words cores x y → Decides (board_rules task rows ++ guard_rules task rows cores) (Lowest (IsFree rows)) (answer_to y.change)
       entry s (stands h) (refused n) = inl (gives 12 (some_id s task.id h) refl)
-      entry s (stands h) (kept z v) = absurd (eqb-false id_stands 0 refl z)
-      entry s (stands h) (turned z v) = absurd (eqb-false id_stands 0 refl z)
+      entry s (stands h) (kept z v) = absurd cc
+      entry s (stands h) (turned z v) = absurd cc
       entry s (full h f) (refused n) = inr (not-given (no-id s task.id h), inl (gives 13 (no-free s f) refl))
-      entry s (full h f) (kept z v) = absurd (eqb-false board_full 0 refl z)
-      entry s (full h f) (turned z v) = absurd (eqb-false board_full 0 refl z)
-      entry s (fills h f) (refused n) = absurd (n refl)
+      entry s (full h f) (kept z v) = absurd cc
+      entry s (full h f) (turned z v) = absurd cc
+      entry s (fills h f) (refused n) = absurd cc
       entry s (fills h f) (kept z v) =
           inr (
             not-given (no-id s task.id h),
@@ -74,7 +74,7 @@ module _ (bytes words : List ℕ) (rows : List Row) (cores cost : ℕ) where
             ),
           )
 
-      go : {x : Admission} → Admitting bytes words rows cores cost x → Decides (admit_rules bytes words rows cores cost) (Lowest (IsFree rows)) x.change.answer
+      go : {x : Admission} → Admitting bytes words rows cores cost x → Decides (admit_rules bytes words rows cores cost) (Lowest (IsFree rows)) (answer_to x.change)
       go (dear c) = inl (gives 26 c refl)
       go (few c w) = inr (not-given (λ l. omega arith), inl (gives 16 w refl))
       go (unsound c w u) = inr (not-given (λ l. omega arith), inr (not-given (λ l. omega arith), inl (gives 17 u refl)))
@@ -88,7 +88,7 @@ module _ (bytes words : List ℕ) (rows : List Row) (cores cost : ℕ) where
                 not-given (λ u. u s),
                 inr (
                   not-given (⊎_elim (λ (z : cores ≡ 0). omega arith) (λ (g : 64 < cores). omega arith)),
-                  decided (λ (x : Admission). x.change.answer) (λ r. refl) bytes cost (board_rules task rows ++ guard_rules task rows cores) (Lowest (IsFree rows))
+                  decided (λ (x : Admission). (answer_to x.change)) (λ r. refl) bytes cost (board_rules task rows ++ guard_rules task rows cores) (Lowest (IsFree rows))
                       (λ e ok. entry s (entering rows words task) (guarding rows words cores (entered rows words task))) t,
                 ),
               ),
@@ -96,36 +96,36 @@ module _ (bytes words : List ℕ) (rows : List Row) (cores cost : ℕ) where
           )
 
   -- 10 names the loop
-  loop-named : (admission bytes words rows cores cost).change.answer.refusal ≡ 10 → NamesLoop task (admission bytes words rows cores cost).change.answer
+  loop-named : (answer_to (admission bytes words rows cores cost).change).refusal ≡ 10 → NamesLoop task (answer_to (admission bytes words rows cores cost).change)
   loop-named = go (admitted bytes words rows cores cost)
     where
-      other : {x : Admission} → Guarding rows words cores (entered rows words task) x → x.change.answer.refusal ≡ 10 → ⊥
+      other : {x : Admission} → Guarding rows words cores (entered rows words task) x → (answer_to x.change).refusal ≡ 10 → ⊥
       other (refused n) z = entry_other rows words task z
       other (kept e v) z = entry_other rows words task z
       other (turned e v) z = eqb-false verdict_no 10 refl z
 
-      go : {x : Admission} → Admitting bytes words rows cores cost x → x.change.answer.refusal ≡ 10 → NamesLoop task x.change.answer
+      go : {x : Admission} → Admitting bytes words rows cores cost x → (answer_to x.change).refusal ≡ 10 → NamesLoop task (answer_to x.change)
       go (dear c) z = absurd (eqb-false high_cost 10 refl z)
       go (few c w) z = absurd (eqb-false few_words 10 refl z)
       go (unsound c w u) z = absurd (eqb-false unsound_board 10 refl z)
       go (outside c w s a) z = absurd (eqb-false bad_cores 10 refl z)
-      go (tries c w s l h t) z = names-loop (λ (x : Admission). x.change.answer) (λ r. refl) bytes cost (other (guarding rows words cores (entered rows words task))) t z
+      go (tries c w s l h t) z = names-loop (λ (x : Admission). (answer_to x.change)) (λ r. refl) bytes cost (other (guarding rows words cores (entered rows words task))) t z
 
   -- an accepted one joins
-  pub admit-accepted : IsAccepted (admission bytes words rows cores cost).change.answer → Joins bytes words rows cost (admission bytes words rows cores cost)
+  pub admit-accepted : IsAccepted (answer_to (admission bytes words rows cores cost).change) → Joins bytes words rows cost (admission bytes words rows cores cost)
   admit-accepted z =
       let w = admission-entered bytes words rows cores cost z in
       rw w.2 (entry-joins bytes words rows cost w.0 w.1 (rw w.2 at z))
 
   -- a refused one leaves everything
-  pub admit-untouched : IsRefused (admission bytes words rows cores cost).change.answer → (admit_call bytes words rows cores cost).lent ≡ record { words = words; rows = rows }
+  pub admit-untouched : IsRefused (answer_to (admission bytes words rows cores cost).change) → (admit_call bytes words rows cores cost).lent ≡ record { words = words; rows = rows }
   admit-untouched n = let stays = admission-kept bytes words rows cores cost n in rw (stays.0, stays.1)
 
   -- it has a count of cores in its range
-  cores-in : IsAccepted (admission bytes words rows cores cost).change.answer → (1 ≤ cores) × (cores ≤ 64)
+  cores-in : IsAccepted (answer_to (admission bytes words rows cores cost).change) → (1 ≤ cores) × (cores ≤ 64)
   cores-in = go (admitted bytes words rows cores cost)
     where
-      go : {x : Admission} → Admitting bytes words rows cores cost x → IsAccepted x.change.answer → (1 ≤ cores) × (cores ≤ 64)
+      go : {x : Admission} → Admitting bytes words rows cores cost x → IsAccepted (answer_to x.change) → (1 ≤ cores) × (cores ≤ 64)
       go (dear c) z = absurd (eqb-false high_cost 0 refl z)
       go (few c w) z = absurd (eqb-false few_words 0 refl z)
       go (unsound c w u) z = absurd (eqb-false unsound_board 0 refl z)
@@ -133,7 +133,7 @@ module _ (bytes words : List ℕ) (rows : List Row) (cores cost : ℕ) where
       go (tries c w s l h t) z = (l, h)
 
   -- and the verdict with the task is yes
-  pub admit-fits : IsAccepted (admission bytes words rows cores cost).change.answer → SaysYes (admit_call bytes words rows cores cost).lent.rows cores
+  pub admit-fits : IsAccepted (answer_to (admission bytes words rows cores cost).change) → SaysYes (admit_call bytes words rows cores cost).lent.rows cores
   admit-fits z =
       let (s, ok, e, told) = admission-entered bytes words rows cores cost z in
       let (low, high) = cores-in z in

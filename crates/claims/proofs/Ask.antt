@@ -7,9 +7,10 @@ use Prim.Native.Nat.{ℕ, ◌≤◌, ◌<◌}
 use native.Mathlib.Omega.{arith}
 use lib.Dec.{leb}
 use borrow.Author.Tests.{leb-true, leb-false, eqb-false}
+use Rattle.std.specs.Prelude.{Result, ⊤}
 use Rattle.plain.specs.Pick.{one}
 use Rattle.refusals.specs.declared.Answer.{Answer}
-use Rattle.refusals.specs.declared.Outcome.{Outcome}
+use Rattle.refusals.specs.declared.Refusal.{Refusal}
 use Rattle.refusals.specs.Refusal.{on_outcome}
 use Rattle.refusals.specs.Answer.{accepted, refused}
 use Rattle.boards.specs.declared.Row.{Row}
@@ -68,7 +69,7 @@ module _ (says : List Row → ℕ → Bool) (rows : List Row) (m : ℕ) (Fit : T
       value true e = inl (tells.holds e, refl)
       value false e = inr (tells.fails e, refl)
 
-      go : {o : Outcome} → Before rows m o → Decides (ask_rules rows m) (yes_when Fit) (on_outcome refused (accepted (one (says rows m))) o)
+      go : {o : Result ⊤ Refusal} → Before rows m o → Decides (ask_rules rows m) (yes_when Fit) (on_outcome refused (accepted (one (says rows m))) o)
       go (unsound u) = inl (gives 17 u refl)
       go (outside s a) = inr (not-given (λ u. u s), inl (gives 15 a refl))
       go (asks s l h) = inr (not-given (λ u. u s), inr (not-given (⊎_elim (λ (z : m ≡ 0). omega arith) (λ (g : 64 < m). omega arith)), (one (says rows m), value (says rows m) refl, refl)))
@@ -82,7 +83,7 @@ module _ (says : List Row → ℕ → Bool) (rows : List Row) (m : ℕ) (Fit : T
       yes-holds true e = refl
       yes-holds false e = absurd (omega arith)
 
-      go : {o : Outcome} → Before rows m o → on_outcome refused (accepted (one (says rows m))) o ≡ accepted 1 → Sound rows × (1 ≤ m) × (m ≤ 64) × Fit
+      go : {o : Result ⊤ Refusal} → Before rows m o → on_outcome refused (accepted (one (says rows m))) o ≡ accepted 1 → Sound rows × (1 ≤ m) × (m ≤ 64) × Fit
       go (unsound u) e = absurd (eqb-false 17 0 refl (ap (λ (a : Answer). a.refusal) e))
       go (outside s c) e = absurd (eqb-false 15 0 refl (ap (λ (a : Answer). a.refusal) e))
       go (asks s l h) e = (s, l, h, tells.holds (yes-holds (says rows m) (ap (λ (a : Answer). a.value) e)))
@@ -92,7 +93,7 @@ module _ (says : List Row → ℕ → Bool) (rows : List Row) (m : ℕ) (Fit : T
   unfolding asked_by
   told s low high = go (before rows m)
     where
-      go : {o : Outcome} → Before rows m o → on_outcome refused (accepted (one (says rows m))) o ≡ accepted (one (says rows m))
+      go : {o : Result ⊤ Refusal} → Before rows m o → on_outcome refused (accepted (one (says rows m))) o ≡ accepted (one (says rows m))
       go (unsound u) = absurd (u s)
       go (outside t c) = absurd (⊎_elim (λ (z : m ≡ 0). omega arith) (λ (g : 64 < m). omega arith) c)
       go (asks t l h) = refl

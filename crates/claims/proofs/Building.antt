@@ -11,13 +11,12 @@ use lib.Dec.{eqb, ltb}
 use lib.ListN.{length, drop, take-append-drop}
 use lib.Seq.{take-length}
 use borrow.Author.Tests.{ne_eqb, lt-ltb, ltb-true}
+use Rattle.std.specs.Prelude.{Result, Ok, Err, ⊤}
 use Rattle.plain.specs.Pick.{one}
 use Rattle.plain.specs.Sums.{max_to}
 use Rattle.plain.proofs.Lists.{lt-or-ge}
 use Rattle.plain.proofs.Sums.{le-max_to, max_to-is}
 use Rattle.refusals.specs.declared.Refusal.{Refusal}
-use Rattle.refusals.specs.declared.Outcome.{Outcome}
-use Rattle.refusals.specs.declared.Outcome.TheVariants.{Accepted, Refused}
 use Rattle.refusals.specs.After.{After}
 use Rattle.tables.specs.declared.TaskTable.{TaskTable}
 use Rattle.tables.specs.Limits.{million}
@@ -53,7 +52,7 @@ module _ (file : List ℕ) where
   walk-single : Single (rule_by (Refuses file))
   walk-single = single-by (Refuses file) (walk file).outcome (λ k place f. rule-refused file f)
 
-  not-ended : (walk file).outcome ≡ Accepted → (r : Refusal) → rule_by (Refuses file) r → ⊥
+  not-ended : (walk file).outcome ≡ Ok tt → (r : Refusal) → rule_by (Refuses file) r → ⊥
   not-ended e r (k, p, f, d) = not-both (rule-refused file f) e
 
   -- some records lie before a place, and these are the walk's
@@ -64,10 +63,10 @@ module _ (file : List ℕ) where
       by (whole l) = (_, l)
       by (stopped l f) = (_, l)
 
-  all_laid : (walk file).outcome ≡ Accepted → Laid file (records_of file) (length file)
+  all_laid : (walk file).outcome ≡ Ok tt → Laid file (records_of file) (length file)
   all_laid = by (comes file)
     where
-      by : {w : Walk} → Comes file w → w.outcome ≡ Accepted → Laid file w.records (length file)
+      by : {w : Walk} → Comes file w → w.outcome ≡ Ok tt → Laid file w.records (length file)
       by (whole l) e = l
       by (stopped l f) e = absurd (not-both refl e)
 
@@ -75,7 +74,7 @@ module _ (file : List ℕ) where
   apart b = let l = laid in (drop l.0 file, sym (take-append-drop l.0 file) ∙ ap (λ (x : List ℕ). x ++ drop l.0 file) (laid-filed file b l.1))
 
 -- a file of records is walked to its end
-walks-whole : (records : List (List ℕ)) → length (file_of records) ≤ 1048576 → walk (file_of records) ≡ record { records = records; outcome = Accepted }
+walks-whole : (records : List (List ℕ)) → length (file_of records) ≤ 1048576 → walk (file_of records) ≡ record { records = records; outcome = Ok tt }
 walks-whole records h =
     let file = file_of records in
     laid-whole file (filed-laid file [] records none (sym (append-nil file)) (omega arith) (omega arith)) (omega arith)
@@ -85,13 +84,13 @@ module _ (file : List ℕ) (cost : ℕ) where
   decides : Decides (building_rules file cost) (building_value file) (building_call file cost).answer
   decides = by (before (length file) cost) refl
     where
-      walked : (o : Outcome) → (walk file).outcome ≡ o → cost ≤ 255 → length file ≤ 1048576 → before_walking (length file) cost ≡ Accepted → Decides (building_rules file cost) (building_value file) (building_call file cost).answer
-      walked Accepted e c h q = rw (call-walked file cost q, e)
+      walked : (o : Result ⊤ Refusal) → (walk file).outcome ≡ o → cost ≤ 255 → length file ≤ 1048576 → before_walking (length file) cost ≡ Ok tt → Decides (building_rules file cost) (building_value file) (building_call file cost).answer
+      walked (Ok done) e c h q = rw (call-walked file cost q, e)
           (inr (not-given (λ l. omega arith), inr (not-given (λ l. omega arith), inr (not-ended file e, (_, refl, refl)))))
-      walked (Refused r) e c h q = let w = refused-rule file r e in rw (call-walked file cost q, e)
+      walked (Err r) e c h q = let w = refused-rule file r e in rw (call-walked file cost q, e)
           (inr (not-given (λ l. omega arith), inr (not-given (λ l. omega arith), inl (r, (r.number, r.place, w.0, w.1), refl))))
 
-      by : {o : Outcome} → Before (length file) cost o → before_walking (length file) cost ≡ o → Decides (building_rules file cost) (building_value file) (building_call file cost).answer
+      by : {o : Result ⊤ Refusal} → Before (length file) cost o → before_walking (length file) cost ≡ o → Decides (building_rules file cost) (building_value file) (building_call file cost).answer
       by (dear h) q = rw (call-refused file cost q) (inl (gives 26 h refl))
       by (long c h) q = rw (call-refused file cost q) (inr (not-given (λ l. omega arith), inl (gives 27 h refl)))
       by (walks c h) q = walked (walk file).outcome refl c h q
@@ -100,7 +99,7 @@ module _ (file : List ℕ) (cost : ℕ) where
   uncounted : (255 < cost) ⊎ (1048576 < length file) → (building_call file cost).counts ≡ no_counts
   uncounted = by (before (length file) cost) refl
     where
-      by : {o : Outcome} → Before (length file) cost o → before_walking (length file) cost ≡ o → (255 < cost) ⊎ (1048576 < length file) → (building_call file cost).counts ≡ no_counts
+      by : {o : Result ⊤ Refusal} → Before (length file) cost o → before_walking (length file) cost ≡ o → (255 < cost) ⊎ (1048576 < length file) → (building_call file cost).counts ≡ no_counts
       by (dear h) q x = rw (call-refused file cost q)
       by (long c h) q x = rw (call-refused file cost q)
       by (walks c h) q x = absurd (⊎_elim (λ (l : 255 < cost). omega arith) (λ (l : 1048576 < length file). omega arith) x)
@@ -109,7 +108,7 @@ module _ (file : List ℕ) (cost : ℕ) where
 alone : (bytes words : List ℕ) (cost : ℕ) → 387 ≤ length words → cost ≤ 255 → Alone bytes words cost
 alone bytes words cost room c = by (planning.alone bytes cost c)
   where
-    free : {o : Outcome} → reading.Before (length words) cost o → o ≡ Accepted
+    free : {o : Result ⊤ Refusal} → reading.Before (length words) cost o → o ≡ Ok tt
     free (reading.Before.dear h) = absurd (omega arith)
     free (reading.Before.few c h) = absurd (omega arith)
     free (reading.Before.reads c h) = refl

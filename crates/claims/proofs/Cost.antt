@@ -8,13 +8,13 @@ use native.Mathlib.Omega.{arith}
 use lib.Dec.{ltb}
 use lib.ListN.{length}
 use borrow.Author.Tests.{le-leb}
+use Rattle.std.specs.Prelude.{Ok, Err}
 use Rattle.plain.specs.At.{at}
 use Rattle.plain.specs.Pick.{pick, up_to}
 use Rattle.plain.specs.Sums.{sum_to}
 use Rattle.plain.proofs.Sums.{sum_same, sum-add, sum-mul}
 use Rattle.refusals.specs.Numbers.{few_words}
 use Rattle.refusals.specs.declared.Refusal.{Refusal}
-use Rattle.refusals.specs.declared.Outcome.TheVariants.{Accepted, Refused}
 use Rattle.refusals.specs.Refusal.{refusal, on_outcome}
 use Rattle.tables.specs.declared.TaskTable.{TaskTable}
 use Rattle.tables.specs.Cost.{with_cost, costed}
@@ -54,7 +54,7 @@ module _ {A : Type 0} (refuse : Refusal → A) where
   free-task go bytes = ap (λ (t : TaskTable). on_outcome refuse (on_table refuse go t) (reading_of bytes).outcome) (costed-0 (reading_of bytes).table)
 
   -- a refusal by one test
-  tested : (go : A) (t : Bool) (r : Refusal) → on_outcome refuse go (pick t (Refused r) Accepted) ≡ pick t (refuse r) go
+  tested : (go : A) (t : Bool) (r : Refusal) → on_outcome refuse go (pick t (Err r) (Ok tt)) ≡ pick t (refuse r) go
   tested go true r = refl
   tested go false r = refl
 
@@ -69,7 +69,7 @@ free-plan bytes words = free-first (unplanned words) _ (length words) ∙ rw (fr
 
 free-noting : (bytes words : List ℕ) (rows : List Row) → noting bytes words rows 0 ≡ old_admission bytes words rows
 unfolding noting
-free-noting bytes words rows = free-first (not_admitted rows words) _ (length words) ∙ rw (free-task (not_admitted rows words) (entered rows words) bytes)
+free-noting bytes words rows = free-first (not_admitted words) _ (length words) ∙ rw (free-task (not_admitted words) (entered rows words) bytes)
 
 -- the limits: no execution is above `run_max`, and the work and Q follow
 limits : (t : TaskTable) → Accepted-table t → Limited t

@@ -9,9 +9,9 @@ use native.Mathlib.Omega.{arith}
 use lib.ListN.{length, take, drop}
 use lib.Seq.{take-append_seam}
 use borrow.Author.Tests.{eqb-false}
+use Rattle.std.specs.Prelude.{Ok, Err}
 use Rattle.plain.proofs.Picks.{true-false}
 use Rattle.refusals.specs.declared.Refusal.{Refusal}
-use Rattle.refusals.specs.declared.Outcome.TheVariants.{Accepted, Refused}
 use Rattle.refusals.specs.declared.Answer.{Answer}
 use Rattle.refusals.specs.Refusal.{refusal}
 use Rattle.refusals.specs.Readers.{is_in}
@@ -32,7 +32,7 @@ use Rattle.graphs.specs.declared.Graph.{Graph}
 use Rattle.graphs.specs.Graph.{graph_of}
 use Rattle.graphs.specs.Met.{Commented, Refuses}
 use Rattle.graphs.specs.Record.{graph_call}
-use Rattle.graphs.proofs.Cases.{Begun, begun, begun-reading}
+use Rattle.graphs.proofs.Cases.{Begun, begun, begun-reading, between_in}
 use Rattle.graphs.proofs.Cases.Begun.{bad-id, bad-period, ranged}
 use Rattle.graphs.proofs.Meets.{whole, rule-refused, refused-rule, refused-table, gives-read, comment-told, told-comment, one_table, place_inside, own-number}
 use Rattle.graphs.proofs.Filled.{graph-read, graph-filling}
@@ -53,14 +53,14 @@ not-outside l h (inr k) = omega arith
 
 module _ (text : List ℕ) (id period : ℕ) where
   -- the reader's refusals are the first three rules
-  refuses : (bytes : List ℕ) (t : TaskTable) (r : Refusal) {g : Graph} → Begun text id period g → g.outcome ≡ Refused r →
+  refuses : (bytes : List ℕ) (t : TaskTable) (r : Refusal) {g : Graph} → Begun text id period g → g.outcome ≡ Err r →
       Decides (graph_rules text bytes id period t) (write_value t) (answer.refused r)
   refuses bytes t r (bad-id o) e = let same : r ≡ refusal bad_id 0 = cc in inl (r, (o, same), refl)
   refuses bytes t r (bad-period l h o) e = let same : r ≡ refusal bad_period 0 = cc in inr (not-given (not-outside l h), inl (r, (o, same), refl))
   refuses bytes t r (ranged l h k g) e = let w = refused-rule text id period r e in
       inr (not-given (not-outside l h), inr (not-given (not-outside k g), inl (r, (r.number, r.place, w.0, w.1), refl)))
 
-  passes : (bytes : List ℕ) (t : TaskTable) (a : Answer) {g : Graph} → Begun text id period g → g.outcome ≡ Accepted →
+  passes : (bytes : List ℕ) (t : TaskTable) (a : Answer) {g : Graph} → Begun text id period g → g.outcome ≡ Ok tt →
       Decides (rule_at 19 (length bytes) (length bytes < length (record_of t)) ∷ []) (write_value t) a → Decides (graph_rules text bytes id period t) (write_value t) a
   passes bytes t a (bad-id o) e d = clash (cc)
   passes bytes t a (bad-period l h o) e d = clash (cc)
@@ -68,13 +68,13 @@ module _ (text : List ℕ) (id period : ℕ) where
       inr (not-given (not-outside l h), inr (not-given (not-outside k g), inr ((λ r (n, p, f, q). not-both (rule-refused text id period f) e), d)))
 
   -- none of them is an acceptance, and each stands beside the table that is all zeros
-  some_number : (r : Refusal) {g : Graph} → Begun text id period g → g.outcome ≡ Refused r → r.number ≡ 0 → ⊥
+  some_number : (r : Refusal) {g : Graph} → Begun text id period g → g.outcome ≡ Err r → r.number ≡ 0 → ⊥
   unfolding is_in
   some_number r (bad-id o) e z = let same : refusal bad_id 0 ≡ r = cc in omega (arith, ap (λ (x : Refusal). x.number) same)
   some_number r (bad-period l h o) e z = let same : refusal bad_period 0 ≡ r = cc in omega (arith, ap (λ (x : Refusal). x.number) same)
   some_number r (ranged l h k g) e z = let q = rw z at (own-number text id period (refused-rule text id period r e).0) in true-false q refl
 
-  empty : (r : Refusal) {g : Graph} → Begun text id period g → g.outcome ≡ Refused r → g.table ≡ empty_table
+  empty : (r : Refusal) {g : Graph} → Begun text id period g → g.outcome ≡ Err r → g.table ≡ empty_table
   empty r (bad-id o) e = refl
   empty r (bad-period l h o) e = refl
   empty r (ranged l h k g) e = refused-table text id period r e
@@ -102,7 +102,7 @@ module _ (text : List ℕ) (id period : ℕ) where
 
     -- an accepted call is that of an accepted text whose record has room
     record Fits (a : After (List ℕ)) : Type 0 where
-      pub accepted : (graph_of text id period).outcome ≡ Accepted
+      pub accepted : (graph_of text id period).outcome ≡ Ok tt
       pub is : a ≡ record_put bytes table
 
     fitted : IsAccepted (graph_call text bytes id period).answer → Fits (graph_call text bytes id period)
@@ -122,7 +122,7 @@ module _ (text : List ℕ) (id period : ℕ) where
         go (fits e h) z = absurd (z refl)
 
   -- how an accepted text was read
-  was_read : (graph_of text id period).outcome ≡ Accepted → GraphRead text id period table
+  was_read : (graph_of text id period).outcome ≡ Ok tt → GraphRead text id period table
   was_read e = let r = graph-read text id period e in record {
     gives = r.gives;
     range = filling-all table r.runs r.tasks.filling;
@@ -142,12 +142,12 @@ of-graphs = record {
   from-left = words-ascend;
   own = λ text id period k place f. (own-number text id period f, place_inside text id period f);
   gives = was_read;
-  reads = λ text id period t l h k g f runs. let e = begun-reading text id period l h k g ∙ (gives-read text id period f runs).1 in
+  reads = λ text id period t l h k g f runs. let e = begun-reading text id period (between_in 1 id 65535 l h) (between_in 1 period 16777215 k g) ∙ (gives-read text id period f runs).1 in
       (ap (λ (x : Graph). x.outcome) e, ap (λ (x : Graph). x.table) e);
   one_table = λ text id period t u. one_table text id period;
   all-zeros = λ text id period r. empty text id period r (begun text id period);
   commented = λ text id period. commented text id period (begun text id period);
-  comment-told = λ text id period l h k g c. ap (λ (x : Graph). x.commented) (begun-reading text id period l h k g) ∙ comment-told text id period c;
+  comment-told = λ text id period l h k g c. ap (λ (x : Graph). x.commented) (begun-reading text id period (between_in 1 id 65535 l h) (between_in 1 period 16777215 k g)) ∙ comment-told text id period c;
   parted = parted-alike;
   zeros = zeros-alike;
   back = λ text bytes id period a e z.

@@ -4,7 +4,7 @@ use mathlib.Core.List.{List, [], ◌∷◌}
 use Prim.Native.Nat.{ℕ}
 use native.Mathlib.Decide.{ℕ_discrete}
 use Rattle.boards.specs.declared.Row.{Row}
-use Rattle.boards.specs.Change.{withdrawn}
+use Rattle.boards.specs.Change.{answer_to, withdrawn}
 use Rattle.boards.proofs.Keeping.{withdrawn-refused}
 use Rattle.guards.specs.Guarded.{admission}
 use Rattle.planner.specs.Calls.{Lent}
@@ -20,11 +20,11 @@ module _ (m : ℕ) where
   -- a call that is guarded keeps a yes
   yes-kept : (call : Call) (rows : List Row) → GuardedBy m call → SaysYes rows m → SaysYes (rows_after call rows) m
   yes-kept (note bytes words cost) rows g y = absurd g
-  yes-kept (admit bytes words cores cost) rows g y = elim (ℕ_discrete (admission bytes words rows cores cost).change.answer.refusal 0) [
+  yes-kept (admit bytes words cores cost) rows g y = elim (ℕ_discrete (answer_to (admission bytes words rows cores cost).change).refusal 0) [
     | yes z ↦ subst (SaysYes _) g (admit-fits bytes words rows cores cost z)
     | no n ↦ rw (ap (λ (l : Lent). l.rows) (admit-untouched bytes words rows cores cost n)) y
   ]
-  yes-kept (withdraw id) rows g y = elim (ℕ_discrete (withdrawn rows id).answer.refusal 0) [
+  yes-kept (withdraw id) rows g y = elim (ℕ_discrete (answer_to (withdrawn rows id)).refusal 0) [
     | yes z ↦ of-sales.preemptive.withdrawal rows m id y z
     | no n ↦ rw (withdrawn-refused rows id n) y
   ]

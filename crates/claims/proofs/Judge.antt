@@ -7,11 +7,11 @@ use Prim.Native.Nat.{ℕ, ◌≤◌, ◌<◌}
 use native.Mathlib.Omega.{arith}
 use lib.ListN.{length}
 use borrow.Author.Tests.{eqb-false}
+use Rattle.std.specs.Prelude.{Ok, Err}
 use Rattle.plain.specs.At.{at}
 use Rattle.plain.proofs.Lists.{lt-or-ge}
 use Rattle.refusals.specs.Numbers.{loop, long_path, few_words, bad_plan, broken_rule, high_cost}
 use Rattle.refusals.specs.declared.Refusal.{Refusal}
-use Rattle.refusals.specs.declared.Outcome.TheVariants as outcome
 use Rattle.refusals.specs.declared.Answer.{Answer}
 use Rattle.refusals.specs.Refusal.{refusal}
 use Rattle.refusals.specs.Answer.{refused}
@@ -61,7 +61,7 @@ held-once plan e f = let q = sym e ∙ f in (cc, cc)
 module _ (t : TaskTable) (plan : List ℕ) where
   -- 25 gives one refusal
   broken-single : Single (rule_by (broken_by t plan))
-  broken-single = single-by (broken_by t plan) (outcome.Refused (refusal 25 (broken_of t (found_in plan)))) (λ k place (z, b). rw (z, broken-first t (found_in plan) b))
+  broken-single = single-by (broken_by t plan) (Err (refusal 25 (broken_of t (found_in plan)))) (λ k place (z, b). rw (z, broken-first t (found_in plan) b))
 
   module _ {id : ℕ} {found : List ℕ} (e : plan_of plan ≡ PlanRead.read id found) where
     id-in : id_in plan ≡ id
@@ -197,7 +197,7 @@ module _ {bytes plan words : List ℕ} {cost id : ℕ} {found : List ℕ} (h : H
 
 -- our own plan passes: it is written, reads back and keeps the rules
 module _ (bytes words : List ℕ) (cost : ℕ) where
-  own-passes : cost ≤ cost_max → words_max ≤ length words → (reading_of bytes).outcome ≡ outcome.Accepted → Accepted (task_of bytes cost) → OwnPasses bytes (written (task_of bytes cost) words) cost
+  own-passes : cost ≤ cost_max → words_max ≤ length words → (reading_of bytes).outcome ≡ Ok tt → Accepted (task_of bytes cost) → OwnPasses bytes (written (task_of bytes cost) words) cost
   own-passes c w e a =
       let t = task_of bytes cost in
       let ok = plans-accepted a in

@@ -10,9 +10,9 @@ use native.Mathlib.Omega.{arith}
 use lib.ListN.{length, drop}
 use lib.Seq.{take-append_seam}
 use borrow.Author.Tests.{eqb-false}
+use Rattle.std.specs.Prelude.{Ok, Err}
 use Rattle.plain.proofs.Picks.{true-false}
 use Rattle.refusals.specs.declared.Refusal.{Refusal}
-use Rattle.refusals.specs.declared.Outcome.TheVariants.{Accepted, Refused}
 use Rattle.refusals.specs.Refusal.{refusal}
 use Rattle.refusals.specs.Numbers.{wrong_length, none_runs}
 use Rattle.tables.specs.declared.TaskTable.{TaskTable}
@@ -45,7 +45,7 @@ use Rattle.claims.proofs.Rule.{Single, single, single-at, single-by, gives, not-
 use Rattle.claims.proofs.Promise.{promised, narrowed}
 
 -- the given record's rules give one refusal
-outcome-is : (given : List ℕ) {k place : ℕ} → Refuses given k place → (draft_of given).outcome ≡ Refused (refusal k place)
+outcome-is : (given : List ℕ) {k place : ℕ} → Refuses given k place → (draft_of given).outcome ≡ Err (refusal k place)
 outcome-is given f = ap (λ (x : Draft). x.outcome) (rule-refused given f)
 
 given-single : (given : List ℕ) → Single (given_rule given)
@@ -76,7 +76,7 @@ module _ (given bytes : List ℕ) where
   unfolding table
   decides = go (coming given bytes)
     where
-      no-rule : (draft_of given).outcome ≡ Accepted → (r : Refusal) → given_rule given r → ⊥
+      no-rule : (draft_of given).outcome ≡ Ok tt → (r : Refusal) → given_rule given r → ⊥
       no-rule e r (k, q, f, g) = not-both (outcome-is given f) e
 
       runs : all_zero (draft_of given).table.execution (draft_of given).table.count ≡ false → AllZero (draft_of given).table → ⊥
@@ -90,7 +90,7 @@ module _ (given bytes : List ℕ) where
 
   -- an accepted call is that of a draft whose table runs and has room
   record Fits (m : Mended) : Type 0 where
-    pub drawn : (draft_of given).outcome ≡ Accepted
+    pub drawn : (draft_of given).outcome ≡ Ok tt
     pub runs : all_zero table.execution table.count ≡ false
     pub room : length (record_of table) ≤ length bytes
     pub is : m ≡ record { after = record_put bytes table; counts = (draft_of given).counts }

@@ -5,13 +5,12 @@ use mathlib.Core.Logic.{inl, inr}
 use mathlib.Core.List.{List}
 use Prim.Native.Nat.{ℕ, ◌≤◌, ◌<◌}
 use native.Mathlib.Omega.{arith}
-use lib.Dec.{eqb}
 use lib.ListN.{set}
 use borrow.Author.Tests.{eqb-false}
-use Rattle.plain.specs.Pick.{pick}
+use Rattle.std.specs.Prelude.{Result, Ok}
 use Rattle.refusals.specs.Numbers.{id_stands, board_full, few_words, unsound_board, high_cost}
+use Rattle.refusals.specs.declared.Refusal.{Refusal}
 use Rattle.refusals.specs.Refusal.{refusal}
-use Rattle.refusals.specs.Answer.{accepted}
 use Rattle.tables.specs.declared.TaskTable.{TaskTable}
 use Rattle.plans.specs.Words.{written}
 use Rattle.plans.specs.Accepted.{Accepted}
@@ -21,7 +20,7 @@ use Rattle.boards.specs.declared.Change.{Change}
 use Rattle.boards.specs.Row.{rows_max}
 use Rattle.boards.specs.Sound.{Sound}
 use Rattle.boards.specs.Find.{place_of, free_at}
-use Rattle.boards.specs.Change.{changed}
+use Rattle.boards.specs.Change.{on_change, answer_to, changed}
 use Rattle.boards.proofs.Cases.{Placing, placing}
 use Rattle.boards.proofs.Cases.Placing.{stands as place-stands, fills as place-fills, full as place-full}
 use Rattle.admissions.specs.Admission.{Admission, row_of, not_admitted, entered, noting}
@@ -43,12 +42,12 @@ use Rattle.claims.proofs.Board.{one-lowest, some_id, no-id, some-free, no-free, 
 module _ (rows : List Row) (words : List ℕ) (t : TaskTable) where
   -- the task's row at the lowest free place, and its plan in the words
   abbrev pub filled : Admission
-  filled = record { change = record { at = free_at rows; row = row_of t; answer = accepted (free_at rows) }; words = written t words }
+  filled = record { change = Ok (record { at = free_at rows; row = row_of t }); words = written t words }
 
   -- 12; 13; else the lowest free row is filled
   pub data Entering : Admission → Type 0 where
-    stands : place_of t.id rows < rows_max → Entering (not_admitted rows words (refusal id_stands 0))
-    full : rows_max ≤ place_of t.id rows → rows_max ≤ free_at rows → Entering (not_admitted rows words (refusal board_full 0))
+    stands : place_of t.id rows < rows_max → Entering (not_admitted words (refusal id_stands 0))
+    full : rows_max ≤ place_of t.id rows → rows_max ≤ free_at rows → Entering (not_admitted words (refusal board_full 0))
     fills : rows_max ≤ place_of t.id rows → free_at rows < rows_max → Entering filled
 
   -- one of the three, as placing its row is
@@ -56,31 +55,31 @@ module _ (rows : List Row) (words : List ℕ) (t : TaskTable) where
   unfolding entered
   entering = go (placing rows (row_of t))
     where
-      go : {c : Change} → Placing rows (row_of t) c → Entering (record { change = c; words = pick (eqb c.answer.refusal 0) (written t words) words })
+      go : {c : Result Change Refusal} → Placing rows (row_of t) c → Entering (on_change (not_admitted words) (λ d. record { change = Ok d; words = written t words }) c)
       go (place-stands h) = stands h
       go (place-fills h f) = fills h f
       go (place-full h f) = full h f
 
   -- none of them is 10
-  pub entry_other : (entered rows words t).change.answer.refusal ≡ 10 → ⊥
+  pub entry_other : (answer_to (entered rows words t).change).refusal ≡ 10 → ⊥
   entry_other = go entering
     where
-      go : {x : Admission} → Entering x → x.change.answer.refusal ≡ 10 → ⊥
+      go : {x : Admission} → Entering x → (answer_to x.change).refusal ≡ 10 → ⊥
       go (stands h) z = eqb-false id_stands 10 refl z
       go (full h f) z = eqb-false board_full 10 refl z
       go (fills h f) z = eqb-false 0 10 refl z
 
 module _ (bytes words : List ℕ) (rows : List Row) (cost : ℕ) where
   -- its rules decide its answer
-  decides : Decides (note_rules bytes words rows cost) (Lowest (IsFree rows)) (noting bytes words rows cost).change.answer
+  decides : Decides (note_rules bytes words rows cost) (Lowest (IsFree rows)) (answer_to (noting bytes words rows cost).change)
   decides = go (noted bytes words rows cost)
     where
-      entry : Sound rows → {x : Admission} → Entering rows words (task_of bytes cost) x → Decides (board_rules (task_of bytes cost) rows) (Lowest (IsFree rows)) x.change.answer
+      entry : Sound rows → {x : Admission} → Entering rows words (task_of bytes cost) x → Decides (board_rules (task_of bytes cost) rows) (Lowest (IsFree rows)) (answer_to x.change)
       entry s (stands h) = inl (gives 12 (some_id s (task_of bytes cost).id h) refl)
       entry s (full h f) = inr (not-given (no-id s (task_of bytes cost).id h), inl (gives 13 (no-free s f) refl))
       entry s (fills h f) = inr (not-given (no-id s (task_of bytes cost).id h), inr (not-given (λ n. n (some-free s f)), (free_at rows, lowest-free s f, refl)))
 
-      go : {x : Admission} → Noting bytes words rows cost x → Decides (note_rules bytes words rows cost) (Lowest (IsFree rows)) x.change.answer
+      go : {x : Admission} → Noting bytes words rows cost x → Decides (note_rules bytes words rows cost) (Lowest (IsFree rows)) (answer_to x.change)
       go (dear c) = inl (gives 26 c refl)
       go (few c w) = inr (not-given (λ l. omega arith), inl (gives 16 w refl))
       go (unsound c w u) = inr (not-given (λ l. omega arith), inr (not-given (λ l. omega arith), inl (gives 17 u refl)))
@@ -91,20 +90,20 @@ module _ (bytes words : List ℕ) (rows : List Row) (cost : ℕ) where
               not-given (λ l. omega arith),
               inr (
                 not-given (λ u. u s),
-                decided (λ (x : Admission). x.change.answer) (λ r. refl) bytes cost (board_rules (task_of bytes cost) rows) (Lowest (IsFree rows)) (λ e ok. entry s (entering rows words (task_of bytes cost))) t,
+                decided (λ (x : Admission). (answer_to x.change)) (λ r. refl) bytes cost (board_rules (task_of bytes cost) rows) (Lowest (IsFree rows)) (λ e ok. entry s (entering rows words (task_of bytes cost))) t,
               ),
             ),
           )
 
   -- 10 names the loop
-  loop-named : (noting bytes words rows cost).change.answer.refusal ≡ 10 → NamesLoop (task_of bytes cost) (noting bytes words rows cost).change.answer
+  loop-named : (answer_to (noting bytes words rows cost).change).refusal ≡ 10 → NamesLoop (task_of bytes cost) (answer_to (noting bytes words rows cost).change)
   loop-named = go (noted bytes words rows cost)
     where
-      go : {x : Admission} → Noting bytes words rows cost x → x.change.answer.refusal ≡ 10 → NamesLoop (task_of bytes cost) x.change.answer
+      go : {x : Admission} → Noting bytes words rows cost x → (answer_to x.change).refusal ≡ 10 → NamesLoop (task_of bytes cost) (answer_to x.change)
       go (dear c) z = absurd (eqb-false high_cost 10 refl z)
       go (few c w) z = absurd (eqb-false few_words 10 refl z)
       go (unsound c w u) z = absurd (eqb-false unsound_board 10 refl z)
-      go (tries c w s t) z = names-loop (λ (x : Admission). x.change.answer) (λ r. refl) bytes cost (entry_other rows words (task_of bytes cost)) t z
+      go (tries c w s t) z = names-loop (λ (x : Admission). (answer_to x.change)) (λ r. refl) bytes cost (entry_other rows words (task_of bytes cost)) t z
 
   -- a sound board, an accepted table whose id no row has, and the lowest free row filled, which leaves the board sound
   pub record Joins (x : Admission) : Type 0 where
@@ -116,26 +115,26 @@ module _ (bytes words : List ℕ) (rows : List Row) (cost : ℕ) where
     pub is : x ≡ filled rows words (task_of bytes cost)
 
   -- an entry that is accepted is that
-  pub entry-joins : Sound rows → Accepted (task_of bytes cost) → IsAccepted (entered rows words (task_of bytes cost)).change.answer → Joins (entered rows words (task_of bytes cost))
+  pub entry-joins : Sound rows → Accepted (task_of bytes cost) → IsAccepted (answer_to (entered rows words (task_of bytes cost)).change) → Joins (entered rows words (task_of bytes cost))
   entry-joins s ok = go (entering rows words (task_of bytes cost)) (entered-sound s words ok)
     where
-      go : {x : Admission} → Entering rows words (task_of bytes cost) x → Sound (changed rows x.change) → IsAccepted x.change.answer → Joins x
+      go : {x : Admission} → Entering rows words (task_of bytes cost) x → Sound (changed rows x.change) → IsAccepted (answer_to x.change) → Joins x
       go (stands h) fine z = absurd (eqb-false id_stands 0 refl z)
       go (full h f) fine z = absurd (eqb-false board_full 0 refl z)
       go (fills h f) fine z = record { sound = s; table = ok; new = h; free = f; fine = fine; is = refl }
 
   -- so is an accepted noting
-  pub note-accepted : IsAccepted (noting bytes words rows cost).change.answer → Joins (noting bytes words rows cost)
+  pub note-accepted : IsAccepted (answer_to (noting bytes words rows cost).change) → Joins (noting bytes words rows cost)
   note-accepted z =
       let w = accepted-entered bytes words rows cost z in
       rw w.2 (entry-joins w.0 w.1 (rw w.2 at z))
 
   -- it leaves the plan's words and the row
-  pub joins-written : {x : Admission} → Joins x → record { words = x.words; rows = changed rows x.change } ≡ with_task (task_of bytes cost) words rows x.change.answer.value
+  pub joins-written : {x : Admission} → Joins x → record { words = x.words; rows = changed rows x.change } ≡ with_task (task_of bytes cost) words rows (answer_to x.change).value
   joins-written a = rw a.is
 
   -- a refused one leaves everything
-  pub note-untouched : IsRefused (noting bytes words rows cost).change.answer → (note_call bytes words rows cost).lent ≡ record { words = words; rows = rows }
+  pub note-untouched : IsRefused (answer_to (noting bytes words rows cost).change) → (note_call bytes words rows cost).lent ≡ record { words = words; rows = rows }
   note-untouched n = let kept = refused-kept bytes words rows cost n in rw (kept.0, kept.1)
 
 -- the promises

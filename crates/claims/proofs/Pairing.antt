@@ -11,9 +11,11 @@ use native.Mathlib.Omega.{arith}
 use lib.Dec.{eqb}
 use lib.ListN.{set, get_or-replicate}
 use borrow.Author.Tests.{eqb-true, eqb-false}
+use Rattle.std.specs.Prelude.{Result}
 use Rattle.plain.specs.Pick.{pick}
 use Rattle.plain.specs.Sums.{sum_to}
 use Rattle.plain.proofs.Sums.{sum-changed}
+use Rattle.refusals.specs.declared.Refusal.{Refusal}
 use Rattle.tables.specs.declared.TaskTable.{TaskTable}
 use Rattle.tables.proofs.Cost.{plannable}
 use Rattle.plans.specs.Accepted.{Accepted}
@@ -23,7 +25,7 @@ use Rattle.boards.specs.declared.Change.{Change}
 use Rattle.boards.specs.Row.{free_row, rows_max, row_at}
 use Rattle.boards.specs.Sound.{Sound}
 use Rattle.boards.specs.Find.{place_of, free_at}
-use Rattle.boards.specs.Change.{changed, withdrawn}
+use Rattle.boards.specs.Change.{answer_to, changed, withdrawn}
 use Rattle.boards.proofs.Sound.{empty-sound}
 use Rattle.boards.proofs.Find.{place-before}
 use Rattle.boards.proofs.Keeping.{withdrawn-refused, withdrawn-sound, place-stands, place-free, one-row, row_written, others-kept}
@@ -186,11 +188,11 @@ module _ {s : State} (p : Paired s) (id : ℕ) (w : Withdrew s.rows id (withdraw
   }
 
 -- a record's task, noted or admitted: it joins, or nothing has changed
-paired-entry : (bytes words : List ℕ) (cost : ℕ) {s : State} → Paired s → (x : Admission) → (IsAccepted x.change.answer → Joins bytes words s.rows cost x) → (IsRefused x.change.answer → changed s.rows x.change ≡ s.rows)
-    → Paired (record { rows = changed s.rows x.change; standing = if_accepted x.change.answer (task_of bytes cost ∷ s.standing) s.standing; admitted = if_accepted x.change.answer (task_of bytes cost ∷ s.admitted) s.admitted })
-paired-entry bytes words cost {s} p x joins stays = go (eqb x.change.answer.refusal 0) refl
+paired-entry : (bytes words : List ℕ) (cost : ℕ) {s : State} → Paired s → (x : Admission) → (IsAccepted (answer_to x.change) → Joins bytes words s.rows cost x) → (IsRefused (answer_to x.change) → changed s.rows x.change ≡ s.rows)
+    → Paired (record { rows = changed s.rows x.change; standing = if_accepted (answer_to x.change) (task_of bytes cost ∷ s.standing) s.standing; admitted = if_accepted (answer_to x.change) (task_of bytes cost ∷ s.admitted) s.admitted })
+paired-entry bytes words cost {s} p x joins stays = go (eqb (answer_to x.change).refusal 0) refl
   where
-    go : (b : Bool) → eqb x.change.answer.refusal 0 ≡ b
+    go : (b : Bool) → eqb (answer_to x.change).refusal 0 ≡ b
         → Paired (record { rows = changed s.rows x.change; standing = pick b (task_of bytes cost ∷ s.standing) s.standing; admitted = pick b (task_of bytes cost ∷ s.admitted) s.admitted })
     go true e =
         let a = joins (eqb-true _ 0 e) in
@@ -202,13 +204,13 @@ pub paired-call : (call : Call) {s : State} → Paired s → Paired (after_call 
 unfolding after_call
 paired-call (note bytes words cost) {s} p = paired-entry bytes words cost p (noting bytes words s.rows cost) (note-accepted bytes words s.rows cost) (λ n. ap (λ (l : Lent). l.rows) (note-untouched bytes words s.rows cost n))
 paired-call (admit bytes words cores cost) {s} p = paired-entry bytes words cost p (admission bytes words s.rows cores cost) (admit-accepted bytes words s.rows cores cost) (λ n. ap (λ (l : Lent). l.rows) (admit-untouched bytes words s.rows cores cost n))
-paired-call (withdraw id) {s} p = go (eqb (withdrawn s.rows id).answer.refusal 0) refl
+paired-call (withdraw id) {s} p = go (eqb (answer_to (withdrawn s.rows id)).refusal 0) refl
   where
-    go : (b : Bool) → eqb (withdrawn s.rows id).answer.refusal 0 ≡ b
+    go : (b : Bool) → eqb (answer_to (withdrawn s.rows id)).refusal 0 ≡ b
         → Paired (record { rows = (withdraw_call s.rows id).lent; standing = pick b (without id s.standing) s.standing; admitted = s.admitted })
     go true e =
         let w = withdraw-accepted s.rows id (eqb-true _ 0 e) in
-        rw (ap (λ (c : Change). changed s.rows c) w.is) (paired-left p id w)
+        rw (ap (λ (c : Result Change Refusal). changed s.rows c) w.is) (paired-left p id w)
     go false e = rw (withdrawn-refused s.rows id (eqb-false _ 0 e)) p
 paired-call (ask cores) p = p
 paired-call (ask_to_end cores) p = p

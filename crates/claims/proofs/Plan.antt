@@ -6,9 +6,10 @@ use Prim.Native.Nat.{ℕ, ◌≤◌, ◌<◌}
 use native.Mathlib.Omega.{arith}
 use lib.ListN.{length}
 use borrow.Author.Tests.{eqb-false}
+use Rattle.std.specs.Prelude.{Result, ⊤}
 use Rattle.plain.specs.At.{at}
 use Rattle.refusals.specs.Numbers.{loop, long_path, few_words, high_cost}
-use Rattle.refusals.specs.declared.Outcome.{Outcome}
+use Rattle.refusals.specs.declared.Refusal.{Refusal}
 use Rattle.refusals.specs.Refusal.{refusal, on_outcome}
 use Rattle.refusals.specs.After.{After}
 use Rattle.tables.specs.declared.TaskTable.{TaskTable}
@@ -44,7 +45,7 @@ module _ (bytes words : List ℕ) (cost : ℕ) where
   unfolding plan_call
   planning = by (before (length words) cost)
     where
-      by : {o : Outcome} → Before (length words) cost o → PlanCase (on_outcome (unplanned words) (on_task (unplanned words) (planned words) bytes cost) o)
+      by : {o : Result ⊤ Refusal} → Before (length words) cost o → PlanCase (on_outcome (unplanned words) (on_task (unplanned words) (planned words) bytes cost) o)
       by (too-dear c) = dear c
       by (too_few c w) = few c w
       by (reads c w) = tries c w (tasking (unplanned words) (planned words) bytes cost c)

@@ -8,11 +8,10 @@ use native.Mathlib.Omega.{arith}
 use lib.ListN.{length, take, drop}
 use lib.Seq.{take-append_seam, take-length}
 use borrow.Author.Tests.{eqb-false}
+use Rattle.std.specs.Prelude.{Result, Ok, Err, ⊤}
 use Rattle.plain.proofs.Lists.{lt-or-ge}
 use Rattle.refusals.specs.Numbers.{few_words, wrong_length, bad_plan, big_word}
 use Rattle.refusals.specs.declared.Refusal.{Refusal}
-use Rattle.refusals.specs.declared.Outcome.{Outcome}
-use Rattle.refusals.specs.declared.Outcome.TheVariants.{Accepted, Refused}
 use Rattle.refusals.specs.Refusal.{refusal}
 use Rattle.refusals.specs.After.{After}
 use Rattle.plans.specs.Words.{words_max}
@@ -36,8 +35,8 @@ use Rattle.claims.proofs.Promise.{promised}
 
 module _ (plan : List ℕ) where
   -- what a plan record comes to, as an outcome
-  outcome_of : PlanRead → Outcome
-  outcome_of p = on_plan Refused (λ id found. Accepted) p
+  outcome_of : PlanRead → Result ⊤ Refusal
+  outcome_of p = on_plan Err (λ id found. Ok tt) p
 
   -- its rules give one refusal, and none where it holds a plan
   pub plan-single : Single (rule_by (Refuses plan))

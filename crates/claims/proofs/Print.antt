@@ -8,12 +8,11 @@ use lib.Dec.{ltb}
 use lib.ListN.{length, take, drop, replicate, length-take}
 use lib.Seq.{take_all}
 use borrow.Author.Tests.{eqb-false, eq-eqb, ne_eqb, lt-ltb, le-ltb}
+use Rattle.std.specs.Prelude.{Result, Ok, Err, ⊤}
 use Rattle.plain.specs.Pick.{pick}
 use Rattle.refusals.specs.Numbers.{loop, long_path, few_words, bad_layout}
 use Rattle.refusals.specs.declared.Refusal.{Refusal}
 use Rattle.refusals.specs.declared.Answer.{Answer}
-use Rattle.refusals.specs.declared.Outcome.{Outcome}
-use Rattle.refusals.specs.declared.Outcome.TheVariants.{Accepted, Refused}
 use Rattle.refusals.specs.Refusal.{refusal, refusal_of, on_outcome}
 use Rattle.refusals.specs.Answer.{refused}
 use Rattle.refusals.specs.After.{After}
@@ -110,12 +109,12 @@ module _ (text : List ℕ) (short : length text ≤ 65536) where
   all_read : graph_in text ≡ sheet_graph text
   all_read = ap (λ (l : List ℕ). sheet_graph l) (take_all text_max text short)
 
-  graph-refusal : (r : Refusal) → (sheet_graph text).outcome ≡ Refused r → graph_sheet text ≡ refused_line r
+  graph-refusal : (r : Refusal) → (sheet_graph text).outcome ≡ Err r → graph_sheet text ≡ refused_line r
   graph-refusal r e = sheet-refused text (whole-short text short) (ap (λ (g : Graph). g.outcome) all_read ∙ e)
 
 -- its table is in range, and its sheet is the table's
 module _ {text : List ℕ} {t : TaskTable} (a : Tabled text t) where
-  accepted : (graph_in text).outcome ≡ Accepted
+  accepted : (graph_in text).outcome ≡ Ok tt
   accepted = ap (λ (g : Graph). g.outcome) (all_read text a.short) ∙ a.read
 
   table_is : (graph_in text).table ≡ t
@@ -171,10 +170,10 @@ graph-fits : (text : List ℕ) → length (graph_sheet text) ≤ sheet_max
 unfolding graph_sheet
 graph-fits text = by (cut_off text) (graph_in text).outcome refl
   where
-    by : (b : Bool) (o : Outcome) → (graph_in text).outcome ≡ o → length (pick b (refused_line (refusal bad_layout text_max)) (on_outcome refused_line (on_table refused_line table_sheet (costed (relaxed (graph_in text).table) sheet_cost)) o)) ≤ sheet_max
+    by : (b : Bool) (o : Result ⊤ Refusal) → (graph_in text).outcome ≡ o → length (pick b (refused_line (refusal bad_layout text_max)) (on_outcome refused_line (on_table refused_line table_sheet (costed (relaxed (graph_in text).table) sheet_cost)) o)) ≤ sheet_max
     by true o e = refusal-fits (refusal bad_layout text_max)
-    by false (Refused r) e = refusal-fits r
-    by false Accepted e = on-table-fits (costed (relaxed (graph_in text).table) sheet_cost) (read-range text e).count-high
+    by false (Err r) e = refusal-fits r
+    by false (Ok done) e = on-table-fits (costed (relaxed (graph_in text).table) sheet_cost) (read-range text e).count-high
 
 -- what plancheck prints of two records that were judged, and of an input that it reads whole
 check-line : (bytes plan : List ℕ) → IsRefused (judged_pair bytes plan).answer → pair_text bytes plan ≡ refused_line (refusal_of (judged_pair bytes plan).answer)

@@ -6,11 +6,11 @@ use mathlib.Core.List.{List, ◌++◌}
 use Prim.Native.Nat.{ℕ, ◌≤◌}
 use native.Mathlib.Omega.{arith}
 use borrow.Author.Tests.{eqb-false}
+use Rattle.std.specs.Prelude.{Ok, Err}
 use Rattle.plain.proofs.Lists.{one-least}
 use Rattle.refusals.specs.Numbers.{loop, long_path}
 use Rattle.refusals.specs.declared.Refusal.{Refusal}
 use Rattle.refusals.specs.declared.Answer.{Answer}
-use Rattle.refusals.specs.declared.Outcome.TheVariants.{Accepted, Refused}
 use Rattle.refusals.specs.Refusal.{refusal, looped}
 use Rattle.refusals.specs.Answer.{refused}
 use Rattle.refusals.proofs.Readers.{readers-low, readers-not-loop}
@@ -44,7 +44,7 @@ use Rattle.claims.specs.Record.{reader_rule, loop_rule, record_rules, NamesLoop,
 use Rattle.claims.proofs.Rule.{Single, Singles, single, gives, not-given, single-by}
 
 -- the outcome that a rule of the reader's gives
-outcome-of : {bytes : List ℕ} {number place : ℕ} → Refuses bytes number place → (reading_of bytes).outcome ≡ Refused (refusal number place)
+outcome-of : {bytes : List ℕ} {number place : ℕ} → Refuses bytes number place → (reading_of bytes).outcome ≡ Err (refusal number place)
 outcome-of {bytes} f = ap (λ (x : Reading). x.outcome) (rule-refused bytes f)
 
 -- a range is refused by 3 to 8
@@ -83,15 +83,15 @@ reading = record {
 }
 
 -- a refusal's number is not 0
-pub unread-some : (bytes : List ℕ) (r : Refusal) → (reading_of bytes).outcome ≡ Refused r → r.number ≡ 0 → ⊥
+pub unread-some : (bytes : List ℕ) (r : Refusal) → (reading_of bytes).outcome ≡ Err r → r.number ≡ 0 → ⊥
 unread-some bytes r e z = let l = readers-low r.number (refused-told bytes r e).own in omega arith
 
 -- a record that was read is refused by none of the reader's rules
-read-clear : {bytes : List ℕ} → (reading_of bytes).outcome ≡ Accepted → (r : Refusal) → reader_rule bytes r → ⊥
+read-clear : {bytes : List ℕ} → (reading_of bytes).outcome ≡ Ok tt → (r : Refusal) → reader_rule bytes r → ⊥
 read-clear e r (k, p, f, d) = not-both (outcome-of f) e
 
 -- a table that was read, by the test: none of its nodes goes round, or the one that is named does, inside its ring
-module _ (bytes : List ℕ) (cost : ℕ) (e : (reading_of bytes).outcome ≡ Accepted) where
+module _ (bytes : List ℕ) (cost : ℕ) (e : (reading_of bytes).outcome ≡ Ok tt) where
   parents-tidy : Tidy (task_of bytes cost).parents (task_of bytes cost).count
   parents-tidy = tidy (plannable (costed-range {cost = 0} (accepted-table bytes e) (omega arith)))
 
@@ -110,7 +110,7 @@ gives-loop t s e = (loop_in t, ((loop_in t).place, s, refl), e)
 -- a record's rules, with those after them, decide what its task comes to
 pub decided : {A : Type 0} {refuse : Refusal → A} {go : TaskTable → A} (answer : A → Answer) (told : (r : Refusal) → answer (refuse r) ≡ refused r)
     (bytes : List ℕ) (cost : ℕ) (rest : List Rule) (value : ℕ → Type 0)
-    → ((reading_of bytes).outcome ≡ Accepted → Accepted-table (task_of bytes cost) → Decides rest value (answer (go (task_of bytes cost))))
+    → ((reading_of bytes).outcome ≡ Ok tt → Accepted-table (task_of bytes cost) → Decides rest value (answer (go (task_of bytes cost))))
     → {x : A} → Tasking refuse go bytes cost x → Decides (record_rules bytes cost ++ rest) value (answer x)
 decided answer told bytes cost rest value entry (unread r e) = let w = refused-rule bytes r e in inl (r, (r.number, r.place, w.0, w.1), told r)
 decided answer told bytes cost rest value entry (round e l) = inr (read-clear e, inl (gives-loop (task_of bytes cost) (some-loop bytes cost e l).smallest (told (loop_in (task_of bytes cost)))))

@@ -3,9 +3,8 @@ use mathlib.Core.Path.{◌≡◌, refl, sym, ap, ◌∙◌}
 use mathlib.Core.Logic.{inl, inr}
 use mathlib.Core.List.{List, [], ◌∷◌}
 use Prim.Native.Nat.{ℕ}
+use Rattle.std.specs.Prelude.{Result, Err, ⊤}
 use Rattle.refusals.specs.declared.Refusal.{Refusal}
-use Rattle.refusals.specs.declared.Outcome.{Outcome}
-use Rattle.refusals.specs.declared.Outcome.TheVariants.{Refused}
 use Rattle.refusals.specs.declared.Answer.{Answer}
 use Rattle.refusals.specs.Refusal.{refusal}
 use Rattle.refusals.specs.Answer.{accepted, refused}
@@ -32,7 +31,7 @@ pub single : (number : ℕ) (given : Type 0) → Single (rule number given)
 single number given = single-at number 0 given
 
 -- and so does a relation that an outcome follows
-pub single-by : (gives : (number place : ℕ) → Type 0) (outcome : Outcome) → ((k place : ℕ) → gives k place → outcome ≡ Refused (refusal k place)) → Single (rule_by gives)
+pub single-by : (gives : (number place : ℕ) → Type 0) (outcome : Result ⊤ Refusal) → ((k place : ℕ) → gives k place → outcome ≡ Err (refusal k place)) → Single (rule_by gives)
 single-by gives outcome told = record { one = one; bare = λ r p n. ap (λ (x : Refusal). x.ring) p.3 }
   where
     one : (r s : Refusal) → rule_by gives r → rule_by gives s → r ≡ s

@@ -20,7 +20,7 @@ use Rattle.boards.specs.declared.Row.{Row}
 use Rattle.boards.specs.Row.{free_row, rows_max, row_at}
 use Rattle.boards.specs.Sound.{Sound}
 use Rattle.boards.specs.Find.{place_of}
-use Rattle.boards.specs.Change.{changed, withdrawn}
+use Rattle.boards.specs.Change.{answer_to, changed, withdrawn}
 use Rattle.boards.specs.Verdict.{sum_of, largest_of, longest_of}
 use Rattle.boards.specs.Fractions.{Fraction}
 use Rattle.boards.proofs.Keeping.{withdrawn-sound, row_written, others-kept}
@@ -131,7 +131,7 @@ module _ {part all : List Row} (w : Within part all) where
       (greatest-within (λ r. quotient (longest_of all) (deadline_in r)) (undivided (longest_of all) 0 0 refl)))
 
 -- a withdrawal leaves a board within the one before it
-pub withdrawn-within : (rows : List Row) (id : ℕ) → IsAccepted (withdrawn rows id).answer → Within (changed rows (withdrawn rows id)) rows
+pub withdrawn-within : (rows : List Row) (id : ℕ) → IsAccepted (answer_to (withdrawn rows id)) → Within (changed rows (withdrawn rows id)) rows
 withdrawn-within rows id z =
     let w = withdraw-accepted rows id z in
     record {

@@ -9,9 +9,9 @@ use native.Mathlib.Omega.{arith}
 use lib.ListN.{length, take, drop}
 use lib.Seq.{take-append_seam}
 use borrow.Author.Tests.{eqb-false}
+use Rattle.std.specs.Prelude.{Ok, Err}
 use Rattle.plain.proofs.Picks.{true-false}
 use Rattle.refusals.specs.declared.Refusal.{Refusal}
-use Rattle.refusals.specs.declared.Outcome.TheVariants.{Accepted, Refused}
 use Rattle.refusals.specs.Refusal.{refusal}
 use Rattle.refusals.specs.Numbers.{wrong_length, none_runs}
 use Rattle.refusals.specs.Answer.{accepted}
@@ -54,7 +54,7 @@ module _ (X P b : List ℕ) (x d p : ℕ) where
   decides : Decides (write_rules X P b (table_of X P x d p)) (write_value (table_of X P x d p)) (write_call X P b x d p).answer
   decides = go (coming X P b x d p)
     where
-      no-range : ranges (numbers_of (table_of X P x d p)) ≡ Accepted → (r : Refusal) → range_rule (table_of X P x d p) r → ⊥
+      no-range : ranges (numbers_of (table_of X P x d p)) ≡ Ok tt → (r : Refusal) → range_rule (table_of X P x d p) r → ⊥
       no-range e r (k, q, f, g) = not-both (outside-refused _ f) e
 
       runs : all_zero (filled X) (length X) ≡ false → AllZero (table_of X P x d p) → ⊥
@@ -112,7 +112,7 @@ of-writing = record {
   longest = λ X P b x d p a words e z.
       let w = wrote X P b x d p (rw e at z) in
       rw (ap (λ (y : After (List ℕ)). y.answer.value) (e ∙ w.is)) (record-length (table_of X P x d p) (passed-spells X P b x d p w.same words w.pass).1);
-  as-met = λ t r small (k, q, f, e). ap (λ (y : Reading). y.outcome) (rule-refused (record_of t) (outside-read (numbers_of t) small f)) ∙ ap Refused (sym e);
+  as-met = λ t r small (k, q, f, e). ap (λ (y : Reading). y.outcome) (rule-refused (record_of t) (outside-read (numbers_of t) small f)) ∙ ap Err (sym e);
   number-back = λ more v rest h. let w = shortest-whole more v rest h in whole-read more w.0 w.1;
   number-again = λ more v n s bytes e. let w = read_whole more s v n e in (form-shortest more bytes w.0 w.1).1;
 }

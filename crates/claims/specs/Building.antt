@@ -1,9 +1,8 @@
 -- All that is promised of walking a building's file (`planner_building`).
-use Rattle.std.specs.Prelude.{◌≡◌, ◌⊎◌, ◌↔◌, false, List, [], ◌∷◌, ◌++◌, ℕ, ◌+◌, ◌≤◌, ◌<◌, eqb, length, drop}
+use Rattle.std.specs.Prelude.{◌≡◌, ◌⊎◌, ◌↔◌, false, List, [], ◌∷◌, ◌++◌, ℕ, ◌+◌, ◌≤◌, ◌<◌, eqb, length, drop, Ok}
 use Rattle.plain.specs.Pick.{one}
 use Rattle.plain.specs.At.{at}
 use Rattle.plain.specs.Sums.{sum_to}
-use Rattle.refusals.specs.declared.Outcome.TheVariants.{Accepted}
 use Rattle.refusals.specs.Readers.{is_readers}
 use Rattle.refusals.specs.After.{After}
 use Rattle.tables.specs.declared.TaskTable.{TaskTable}
@@ -68,8 +67,8 @@ pub record OfBuildings : Type 0 where
   -- with only their lengths between: what was walked is these records, each with its length in shortest form before it
   pub apart : (file : List ℕ) → Bytes file → (rest : List ℕ) × (file ≡ file_of (records_of file) ++ rest)
   -- a file is walked to its end just where it is such records and nothing else
-  pub whole : (file : List ℕ) → Bytes file → (walk file).outcome ≡ Accepted → file ≡ file_of (records_of file)
-  pub walks : (records : List (List ℕ)) → length (file_of records) ≤ 1048576 → walk (file_of records) ≡ record { records = records; outcome = Accepted }
+  pub whole : (file : List ℕ) → Bytes file → (walk file).outcome ≡ Ok tt → file ≡ file_of (records_of file)
+  pub walks : (records : List (List ℕ)) → length (file_of records) ≤ 1048576 → walk (file_of records) ≡ record { records = records; outcome = Ok tt }
   -- "plan it alone"
   pub alone : (bytes words : List ℕ) (cost : ℕ) → 387 ≤ length words → cost ≤ 255 → Alone bytes words cost
   -- each record is accepted or refused by a number, each segment of an accepted one heavy or light

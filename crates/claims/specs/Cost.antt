@@ -32,9 +32,9 @@ old_plan bytes words = pick (ltb (length words) 387) (unplanned words (refusal 1
 -- admitting as document 01 has it, which is noting now: "Admitting checks 16, 17," those, "12, 13"
 abbrev pub old_admission : (bytes words : List ℕ) (rows : List Row) → Admission
 old_admission bytes words rows =
-    pick (ltb (length words) 387) (not_admitted rows words (refusal 16 0))
-    (pick (is_sound rows) (on_record (not_admitted rows words) (entered rows words) bytes)
-    (not_admitted rows words (refusal 17 0)))
+    pick (ltb (length words) 387) (not_admitted words (refusal 16 0))
+    (pick (is_sound rows) (on_record (not_admitted words) (entered rows words) bytes)
+    (not_admitted words (refusal 17 0)))
 
 -- the limits of a task that planning accepts
 pub record Limited (t : TaskTable) : Type 0 where

@@ -1,8 +1,7 @@
 -- All that is promised of reading a graph (`planner_read_graph`).
-use Rattle.std.specs.Prelude.{◌≡◌, ◌⊎◌, true, ℕ, ◌≤◌, ◌<◌, length, take}
+use Rattle.std.specs.Prelude.{◌≡◌, ◌⊎◌, true, ℕ, ◌≤◌, ◌<◌, length, take, Ok, Err}
 use mathlib.Core.List.{List, [], ◌∷◌, Memᴰ}
 use Rattle.refusals.specs.declared.Refusal.{Refusal}
-use Rattle.refusals.specs.declared.Outcome.TheVariants.{Accepted, Refused}
 use Rattle.refusals.specs.Readers.{is_in}
 use Rattle.refusals.specs.After.{After}
 use Rattle.tables.specs.declared.TaskTable.{TaskTable}
@@ -51,14 +50,14 @@ pub record OfGraphs : Type 0 where
   pub own : (text : List ℕ) (id period number place : ℕ) → Refuses text id period number place →
       (is_in number (7 ∷ 8 ∷ 21 ∷ 22 ∷ 23 ∷ []) ≡ true) × (place ≤ length text)
   -- the table of an accepted text is the one that its words give
-  pub gives : (text : List ℕ) (id period : ℕ) → (graph_of text id period).outcome ≡ Accepted → GraphRead text id period (graph_of text id period).table
+  pub gives : (text : List ℕ) (id period : ℕ) → (graph_of text id period).outcome ≡ Ok tt → GraphRead text id period (graph_of text id period).table
   -- and a text whose words give a table in which some node runs is read as that, for every id and period in range
   pub reads : (text : List ℕ) (id period : ℕ) (t : TaskTable) → 1 ≤ id → id ≤ 65535 → 1 ≤ period → period ≤ 16777215 → Gives text id period t → SomeRuns t →
-      ((graph_of text id period).outcome ≡ Accepted) × ((graph_of text id period).table ≡ t)
+      ((graph_of text id period).outcome ≡ Ok tt) × ((graph_of text id period).table ≡ t)
   -- no text gives two tables
   pub one_table : (text : List ℕ) (id period : ℕ) (t u : TaskTable) → Gives text id period t → Gives text id period u → t ≡ u
   -- "from any reader of a table, a table that is all zeros"
-  pub all-zeros : (text : List ℕ) (id period : ℕ) (r : Refusal) → (graph_of text id period).outcome ≡ Refused r → (graph_of text id period).table ≡ empty_table
+  pub all-zeros : (text : List ℕ) (id period : ℕ) (r : Refusal) → (graph_of text id period).outcome ≡ Err r → (graph_of text id period).table ≡ empty_table
   -- beside the table, and beside 21, it is told whether "a word starting with # ends the reading"
   pub commented : (text : List ℕ) (id period : ℕ) → (graph_of text id period).commented ≡ true → Commented text id period
   pub comment-told : (text : List ℕ) (id period : ℕ) → 1 ≤ id → id ≤ 65535 → 1 ≤ period → period ≤ 16777215 → Commented text id period → (graph_of text id period).commented ≡ true

@@ -1,7 +1,6 @@
 -- All that is promised of judging a supplier's plan (`planner_judge`).
-use Rattle.std.specs.Prelude.{◌≡◌, ◌↔◌, List, [], ◌∷◌, ◌++◌, ℕ, ◌≤◌, ◌<◌, length, take}
+use Rattle.std.specs.Prelude.{◌≡◌, ◌↔◌, List, [], ◌∷◌, ◌++◌, ℕ, ◌≤◌, ◌<◌, length, take, Ok}
 use Rattle.plain.specs.At.{at}
-use Rattle.refusals.specs.declared.Outcome.TheVariants as outcome
 use Rattle.refusals.specs.Refusal.{refusal}
 use Rattle.refusals.specs.Answer.{accepted, refused}
 use Rattle.refusals.specs.After.{After}
@@ -57,7 +56,7 @@ pub record GoodForeign (t : TaskTable) (id : ℕ) (found : List ℕ) : Type 0 wh
 -- where neither the cost, the task, the words nor the plan record is refused, and the plan is the task's
 pub record Heard (bytes plan words : List ℕ) (cost id : ℕ) (found : List ℕ) : Type 0 where
   pub cheap : cost ≤ 255
-  pub read : (reading_of bytes).outcome ≡ outcome.Accepted
+  pub read : (reading_of bytes).outcome ≡ Ok tt
   pub task : Accepted (task_of bytes cost)
   pub enough : 387 ≤ length words
   pub holds : Holds plan id found

@@ -1,7 +1,6 @@
 -- All that is promised of what `plansheet`, `graphsheet`, `buildingsheet` and `plancheck` print, and of the line that `mend` prints on standard error.
-use Rattle.std.specs.Prelude.{◌≡◌, true, false, List, [], ◌∷◌, ◌++◌, ℕ, ◌+◌, ◌≤◌, ◌<◌, length, take, drop}
+use Rattle.std.specs.Prelude.{◌≡◌, true, false, List, [], ◌∷◌, ◌++◌, ℕ, ◌+◌, ◌≤◌, ◌<◌, length, take, drop, Ok, Err}
 use Rattle.refusals.specs.declared.Refusal.{Refusal}
-use Rattle.refusals.specs.declared.Outcome.TheVariants.{Accepted, Refused}
 use Rattle.refusals.specs.Refusal.{refusal as told, refusal_of}
 use Rattle.refusals.specs.Answer.{refused}
 use Rattle.tables.specs.declared.TaskTable.{TaskTable}
@@ -21,7 +20,7 @@ use Rattle.graphsheets.specs.Sheet.{relaxed, graph_sheet}
 use Rattle.buildings.specs.declared.Building.{Building}
 use Rattle.buildings.specs.Building.{building_call}
 use Rattle.buildingsheets.specs.Sheet.{counts_text, building_text, building_sheet}
-use Rattle.records.specs.declared.Step.TheVariants as step
+use Rattle.records.specs.Step as step
 use Rattle.files.specs.File.{record_at}
 use Rattle.files.specs.Laid.{file_of}
 use Rattle.planchecks.specs.Sheet.{judged_pair, check_sheet}
@@ -34,7 +33,7 @@ sheet_graph text = graph_of text 1 16777215
 -- a text of at most 65,536 bytes, whose table t is read
 pub record Tabled (text : List ℕ) (t : TaskTable) : Type 0 where
   pub short : length text ≤ 65536
-  pub read : (sheet_graph text).outcome ≡ Accepted
+  pub read : (sheet_graph text).outcome ≡ Ok tt
   pub table : (sheet_graph text).table ≡ t
 
 -- a task record and a plan record, each with its length before it
@@ -57,7 +56,7 @@ pub record OfPrinting : Type 0 where
   pub mend-refusal : (m : Mending) → IsRefused m.answer → mend_line m ≡ refused_line (refusal_of m.answer)
   pub mend-fits : (m : Mending) → length (mend_line m) ≤ sheet_max
   -- graphsheet, of a text of at most 65,536 bytes: the line of the reading's refusal
-  pub graph-refusal : (text : List ℕ) (r : Refusal) → length text ≤ 65536 → (sheet_graph text).outcome ≡ Refused r → graph_sheet text ≡ refused_line r
+  pub graph-refusal : (text : List ℕ) (r : Refusal) → length text ≤ 65536 → (sheet_graph text).outcome ≡ Err r → graph_sheet text ≡ refused_line r
   -- of a loop the line of 10, with the smallest node that is reached from itself
   pub graph-loop : (text : List ℕ) (t : TaskTable) (node : ℕ) → Tabled text t → Smallest t.parents node → graph_sheet text ≡ refused_line (told 10 node)
   -- else the sheet of its table with twice the path as the period, which is one: 11 does not occur
@@ -81,8 +80,8 @@ pub record OfPrinting : Type 0 where
   pub check-sheet : (bytes plan : List ℕ) → length (pair_of bytes plan) ≤ 8192 → IsAccepted (judged_pair bytes plan).answer →
       check_sheet (pair_of bytes plan) ≡ sheet_text (head_of (task_of bytes 0)) (judged_pair bytes plan).lent
   -- "a damaged length, or a record that runs past the input, is refused as in e)", of the first record and of the second
-  pub check-first : (input : List ℕ) (r : Refusal) → length input ≤ 8192 → record_at input 0 ≡ step.Refused r → check_sheet input ≡ refused_line r
-  pub check-second : (input : List ℕ) (size begin : ℕ) (r : Refusal) → length input ≤ 8192 → record_at input 0 ≡ step.Read size begin → record_at input (begin + size) ≡ step.Refused r →
+  pub check-first : (input : List ℕ) (r : Refusal) → length input ≤ 8192 → record_at input 0 ≡ Err r → check_sheet input ≡ refused_line r
+  pub check-second : (input : List ℕ) (size begin : ℕ) (r : Refusal) → length input ≤ 8192 → record_at input 0 ≡ step.read size begin → record_at input (begin + size) ≡ Err r →
       check_sheet input ≡ refused_line r
   -- "bytes after the second record are 9 at the first of them"
   pub check-follow : (bytes plan rest : List ℕ) → 0 < length rest → length (pair_of bytes plan ++ rest) ≤ 8192 → check_sheet (pair_of bytes plan ++ rest) ≡ refused_line (told 9 (length (pair_of bytes plan)))

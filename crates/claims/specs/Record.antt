@@ -1,7 +1,6 @@
 -- Demand 2, of a record: its rules, shared by the calls that take one, and what the reader does with it.
-use Rattle.std.specs.Prelude.{◌≡◌, true, ◌↔◌, List, [], ◌∷◌, ℕ, ◌≤◌, ◌<◌, length, drop}
+use Rattle.std.specs.Prelude.{◌≡◌, true, ◌↔◌, List, [], ◌∷◌, ℕ, ◌≤◌, ◌<◌, length, drop, Err}
 use Rattle.refusals.specs.declared.Refusal.{Refusal}
-use Rattle.refusals.specs.declared.Outcome.TheVariants.{Refused}
 use Rattle.refusals.specs.declared.Answer.{Answer}
 use Rattle.refusals.specs.Refusal.{refusal, looped}
 use Rattle.refusals.specs.Readers.{is_readers}
@@ -54,12 +53,12 @@ NoneRuns bytes place = (place ≡ 0) × (t : TaskTable) × Expects bytes (length
 -- what is promised of the reader
 pub record OfReading : Type 0 where
   -- it refuses a record by a number at a place exactly where a rule of the table gives that
-  pub refuses : (bytes : List ℕ) (number place : ℕ) → ((reading_of bytes).outcome ≡ Refused (refusal number place)) ↔ Refuses bytes number place
+  pub refuses : (bytes : List ℕ) (number place : ℕ) → ((reading_of bytes).outcome ≡ Err (refusal number place)) ↔ Refuses bytes number place
   -- 2 exactly where "a fourth byte has its top bit set", and 18 exactly where "the form isn't the shortest", at that number
-  pub long : (bytes : List ℕ) (place : ℕ) → ((reading_of bytes).outcome ≡ Refused (refusal 2 place)) ↔ Faulty (Long record_more) bytes place
-  pub padded : (bytes : List ℕ) (place : ℕ) → ((reading_of bytes).outcome ≡ Refused (refusal 18 place)) ↔ Faulty (Padded record_more) bytes place
+  pub long : (bytes : List ℕ) (place : ℕ) → ((reading_of bytes).outcome ≡ Err (refusal 2 place)) ↔ Faulty (Long record_more) bytes place
+  pub padded : (bytes : List ℕ) (place : ℕ) → ((reading_of bytes).outcome ≡ Err (refusal 18 place)) ↔ Faulty (Padded record_more) bytes place
   -- 21 exactly where no node runs
-  pub nothing_runs : (bytes : List ℕ) (place : ℕ) → ((reading_of bytes).outcome ≡ Refused (refusal 21 place)) ↔ NoneRuns bytes place
+  pub nothing_runs : (bytes : List ℕ) (place : ℕ) → ((reading_of bytes).outcome ≡ Err (refusal 21 place)) ↔ NoneRuns bytes place
   -- it accepts a record exactly where its numbers are all fine and spell a table, of which some node runs
   pub accepts : (bytes : List ℕ) (t : TaskTable) → (reading_of bytes ≡ table_read t) ↔ Spelt bytes t
   -- so it reads a table exactly from the record that spells it: the bytes that are written of a table in range
@@ -67,4 +66,4 @@ pub record OfReading : Type 0 where
   -- its refusals are its own numbers, at a byte of the record or at its end
   pub own : (bytes : List ℕ) (number place : ℕ) → Refuses bytes number place → (is_readers number ≡ true) × (place ≤ length bytes)
   -- "and with them, from any reader of a table, a table that is all zeros"
-  pub empty : (bytes : List ℕ) (r : Refusal) → (reading_of bytes).outcome ≡ Refused r → (reading_of bytes).table ≡ empty_table
+  pub empty : (bytes : List ℕ) (r : Refusal) → (reading_of bytes).outcome ≡ Err r → (reading_of bytes).table ≡ empty_table

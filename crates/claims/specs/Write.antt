@@ -1,14 +1,12 @@
 -- All that is promised of writing a record (`planner_write_record`).
-use Rattle.std.specs.Prelude.{◌≡◌, List, [], ◌∷◌, ◌++◌, ℕ, suc, ◌^◌, ◌≤◌, ◌<◌, length, take, drop}
+use Rattle.std.specs.Prelude.{◌≡◌, List, [], ◌∷◌, ◌++◌, ℕ, suc, ◌^◌, ◌≤◌, ◌<◌, length, take, drop, Ok, Err}
 use Rattle.plain.specs.At.{at}
 use Rattle.refusals.specs.declared.Refusal.{Refusal}
-use Rattle.refusals.specs.declared.Outcome.TheVariants.{Refused}
 use Rattle.refusals.specs.Answer.{accepted}
 use Rattle.refusals.specs.After.{After}
 use Rattle.tables.specs.declared.TaskTable.{TaskTable}
 use Rattle.tables.specs.Runs.{AllZero}
-use Rattle.numbers.specs.declared.Number.TheVariants.{Value}
-use Rattle.numbers.specs.Number.{number, record_more}
+use Rattle.numbers.specs.Number.{number, record_more, worth}
 use Rattle.numbers.specs.Shortest.{Bytes, shortest}
 use Rattle.records.specs.Nodes.{table_read}
 use Rattle.records.specs.Reading.{reading_of}
@@ -67,7 +65,7 @@ pub record OfWriting : Type 0 where
   pub longest : (executions parents bytes : List ℕ) (edition id period : ℕ) (a : After (List ℕ)) → Words parents →
       WriteAllows executions parents bytes edition id period a → IsAccepted a.answer → a.answer.value ≤ 4361
   -- the record would meet them so: where a reader is given the bytes of a table, it refuses the same number at the same place
-  pub as-met : (t : TaskTable) (r : Refusal) → Small t → range_rule t r → (reading_of (record_of t)).outcome ≡ Refused r
+  pub as-met : (t : TaskTable) (r : Refusal) → Small t → range_rule t r → (reading_of (record_of t)).outcome ≡ Err r
   -- the writer of a number and its reader are each other's inverse, whatever the number of groups
-  pub number-back : (more v : ℕ) (rest : List ℕ) → v < 128 ^ suc more → number more (shortest more v ++ rest) ≡ Value v (length (shortest more v))
-  pub number-again : (more v n : ℕ) (s : List ℕ) → Bytes s → number more s ≡ Value v n → take n s ≡ shortest more v
+  pub number-back : (more v : ℕ) (rest : List ℕ) → v < 128 ^ suc more → number more (shortest more v ++ rest) ≡ Ok (worth v (length (shortest more v)))
+  pub number-again : (more v n : ℕ) (s : List ℕ) → Bytes s → number more s ≡ Ok (worth v n) → take n s ≡ shortest more v
