@@ -28,7 +28,6 @@ impl Rule {
 }
 
 // The first broken rule. A rule is tried only where those before it hold: they bound its sums.
-#[tactic(auto, unfolding(rules::specs::Rules::first_broken, plain::specs::Tests::first_failed))]
 pub fn first_broken(
     own: &[u64],
     plan: &[u64],
