@@ -1,7 +1,7 @@
 pub mod Cases
 pub mod Steps
 pub mod Predecessors
-pub mod Words
+pub mod Chain
 pub mod Along
 pub mod Ends
 pub mod Meets

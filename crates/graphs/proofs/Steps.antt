@@ -3,7 +3,7 @@
 use Prim.Native.Nat.{ℕ, ◌≤◌, ◌<◌}
 use mathlib.Core.Path.{◌≡◌, refl, sym, ap, subst, ◌∙◌}
 use mathlib.Core.Bool.{Bool, true, false, not}
-use mathlib.Core.List.{List, ◌∷◌}
+use mathlib.Core.List.{List, [], ◌∷◌}
 use native.Mathlib.Omega.{arith}
 use lib.ListN.{length}
 use borrow.Author.Tests.{lt-ltb, le-ltb}
@@ -15,6 +15,7 @@ use Rattle.refusals.specs.Numbers.{bad_layout}
 use Rattle.refusals.specs.Refusal.{refusal}
 use Rattle.tables.specs.declared.TaskTable.{TaskTable}
 use Rattle.graphwords.specs.declared.Number.{Number}
+use Rattle.graphwords.specs.declared.Fault.TheVariants.{Other}
 use Rattle.graphwords.specs.Words.{Word, words_at}
 use Rattle.graphwords.specs.Decimal.{is_decimal, decimal_of}
 use Rattle.graphwords.specs.Inner.Found.{cap, capped, past_word, found_in}
@@ -35,6 +36,26 @@ pub taken-out : {T : Type 0} (graph : Graph) (taken : Result T Refusal) (more : 
     IsErrAnd taken (λ x. x ≡ r) → graph ≡ no_graph false r → graph ≡ then_taken (no_graph false) taken more
 taken-out graph (Ok t) more w e = absurd w
 taken-out graph (Err x) more w e = e ∙ ap (no_graph false) (sym w)
+
+-- a number that was found ends inside the text
+found_none : {A : Type 0} (n : Number) → Ok n ≡ found_in [] → A
+unfolding found_in
+found_none n e = cc
+
+found_end : (w : Word) (words : List Word) (n : Number) → Ok n ≡ found_in (w ∷ words) → n.end ≡ past_word w
+unfolding found_in
+found_end w words n e = by (is_decimal w.letters) e
+  where
+    by : (t : Bool) → Ok n ≡ pick t (Ok (record { value = capped (decimal_of w.letters); place = w.place; end = past_word w })) (Err (Other w.place)) → n.end ≡ past_word w
+    by true e = let q : n ≡ record { value = capped (decimal_of w.letters); place = w.place; end = past_word w } = cc in ap (λ (r : Number). r.end) q
+    by false e = cc
+
+pub found_inside : (text : List ℕ) (from : ℕ) (n : Number) → Ok n ≡ found_in (words_at text from) → n.end ≤ length text
+found_inside text from n e = by (first_word text from) e
+  where
+    by : {words : List Word} → First text words → Ok n ≡ found_in words → n.end ≤ length text
+    by none e = found_none n e
+    by (one place h) e = rw (found_end _ _ n e) (past-inside text place h)
 
 -- task i is expected where it is one of the tasks, else nothing more
 pub task-left : (t : TaskTable) (i : ℕ) → i < t.count → task_from t i ≡ word (number t i)

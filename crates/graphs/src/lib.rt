@@ -26,26 +26,11 @@ const DUMMIES: u64 = 2;
 // A count is at most this.
 const TASKS_MAX: u64 = TaskTable::COUNT_MAX - DUMMIES;
 
-// The predecessors that were taken, as a set, and the place past them.
-#[derive(Clone, Copy, Debug, PartialEq, Eq)]
-struct Taken {
-    set: u64,
-    end: usize,
-}
-
-// A task's time, the set of its predecessors, and the place past them.
+// A task's time and the set of its predecessors.
 #[derive(Clone, Copy, Debug, PartialEq, Eq)]
 struct Task {
     time: u64,
     set: u64,
-    end: usize,
-}
-
-// A table with all its tasks, and the place past them.
-#[derive(Clone, Copy)]
-struct Tasks {
-    table: TaskTable,
-    end: usize,
 }
 
 // What a text comes to: its table, and whether a comment ended the reading.
@@ -55,108 +40,6 @@ pub struct Graph {
     pub outcome: Result<(), Refusal>,
     pub table: TaskTable,
     pub commented: bool,
-}
-
-// The first word from a place on, and only then its range.
-fn take_number(
-    text: &[u8],
-    from: usize,
-    broken: Reason,
-    low: u64,
-    high: u64,
-) -> Result<Number, Refusal>
-    requires { from ≤ length text.now }
-    ensures { result ≡ number_taken (number_of broken) low high text.now from }
-{
-    match graphwords::read_word(text, from) {
-        Ok(number) if (low..=high).contains(&number.value) => Ok(number),
-        Ok(number) => Err(broken.at(number.place)),
-        Err(Fault::Other { place }) => Err(Reason::BadLayout.at(place)),
-        Err(Fault::Ended) => Err(Reason::BadLayout.at(text.len())),
-    }
-}
-
-// As many predecessors as count says, each below n and given once, as a set.
-fn take_predecessors(text: &[u8], from: usize, count: u64, n: u64) -> Result<Taken, Refusal>
-    requires { (1 ≤ n) × (n ≤ count_max) × (from ≤ length text.now) }
-    ensures leads { (t : TaskTable) (i time : ℕ) → t.count ≡ n → Leads text.now from (predecessor_from t i time count []) result (λ p. reading_at text.now (task_from (with_node t i time p.set) (i + 1)) p.end) }
-    ensures within { IfOk result (λ p. p.end ≤ length text.now) }
-{
-    let mut set = 0;
-    let mut at = from;
-    for _ in 0..count {
-        let number = take_number(text, at, Reason::BadParent, 0, n - 1)?;
-        let node = number.value as usize;
-        if sets::is_member(set, node) {
-            return Err(Reason::BadParent.at(number.place));
-        }
-        set = sets::with_member(set, node);
-        at = number.end;
-    }
-    Ok(Taken { set, end: at })
-}
-
-// The words of task i: its number, its time, the number of its predecessors and these, each below n.
-fn take_task(text: &[u8], from: usize, i: u64, n: u64) -> Result<Task, Refusal>
-    requires { (i < n) × (n ≤ count_max) × (from ≤ length text.now) }
-    ensures leads { (t : TaskTable) → t.count ≡ n → Leads text.now from (word (number t i)) result (λ task. reading_at text.now (task_from (with_node t i task.time task.set) (i + 1)) task.end) }
-    ensures within { IfOk result (λ task. task.end ≤ length text.now) }
-{
-    let number = take_number(text, from, Reason::BadLayout, i, i)?;
-    let time = take_number(
-        text,
-        number.end,
-        Reason::BadExecution,
-        0,
-        TaskTable::EXECUTION_MAX,
-    )?;
-    let count = take_number(text, time.end, Reason::BadParent, 0, n)?;
-    let Taken { set, end } = take_predecessors(text, count.end, count.value, n)?;
-    Ok(Task {
-        time: time.value,
-        set,
-        end,
-    })
-}
-
-// The tasks of a table whose head was read, into it.
-fn take_tasks(text: &[u8], from: usize, head: TaskTable) -> Result<Tasks, Refusal>
-    requires { (head.count ≤ count_max) × (from ≤ length text.now) }
-    ensures leads { Leads text.now from (task_from head 0) result (λ tasks. reading_at text.now (done tasks.table) tasks.end) }
-    ensures within { IfOk result (λ tasks. (tasks.end ≤ length text.now) × (tasks.table.count ≤ length tasks.table.execution)) }
-{
-    let mut table = head;
-    let mut at = from;
-    for i in 0..head.count {
-        let task = take_task(text, at, i as u64, head.count as u64)?;
-        table.execution[i] = task.time;
-        table.parents[i] = task.set;
-        at = task.end;
-    }
-    Ok(Tasks { table, end: at })
-}
-
-// The words up to the last task's, with the caller's id and period.
-fn read_tasks(text: &[u8], id: u64, period: u64) -> Result<Tasks, Refusal>
-    ensures leads { graph_of text.now id period ≡ then_taken (no_graph false) result (λ tasks. reading_at text.now (done tasks.table) tasks.end) }
-    ensures within { IfOk result (λ tasks. (tasks.end ≤ length text.now) × (tasks.table.count ≤ length tasks.table.execution)) }
-{
-    if !(1..=TaskTable::ID_MAX).contains(&id) {
-        return Err(Reason::BadId.at(0));
-    }
-    if !(1..=TaskTable::PERIOD_MAX).contains(&period) {
-        return Err(Reason::BadPeriod.at(0));
-    }
-    let count = take_number(text, 0, Reason::ManyTasks, 0, TASKS_MAX)?;
-    let head = TaskTable {
-        edition: EDITION,
-        id,
-        period,
-        count: (count.value + DUMMIES) as usize,
-        execution: [0; 64],
-        parents: [0; 64],
-    };
-    take_tasks(text, count.end, head)
 }
 
 // A refusal beside a table that is all zeros.
@@ -170,23 +53,123 @@ fn no_graph(refusal: Refusal, commented: bool) -> Graph
     }
 }
 
-// After the last task: a comment or nothing; and not all times are 0.
-fn end_at(text: &[u8], from: usize, table: TaskTable) -> Graph
-    requires { (from ≤ length text.now) × (table.count ≤ length table.execution) }
-    ensures { result ≡ reading_at text.now (done table) from }
-{
-    let place = graphwords::word_at(text, from);
-    let commented = place < text.len();
-    if commented && text[place] != b'#' {
-        return no_graph(Reason::BadLayout.at(place), false);
+// A text, and how far its words were taken.
+#[derive(Clone, Copy)]
+struct Words<'a> {
+    text: &'a [u8],
+    at: usize,
+    ghost inside: { at ≤ length text.now },
+}
+
+impl Words<'_> {
+    // The next word, and only then its range.
+    fn take_number(&mut self, broken: Reason, low: u64, high: u64) -> Result<Number, Refusal>
+        ensures taken { result ≡ number_taken (number_of broken) low high self.old.text.now self.old.at }
+        ensures past { IfOk result (λ number. number.end ≡ self.new.at) }
+        ensures text { self.new.text ≡ self.old.text }
+    {
+        match graphwords::read_word(self.text, self.at) {
+            Ok(number) if (low..=high).contains(&number.value) => {
+                self.at = number.end;
+                Ok(number)
+            }
+            Ok(number) => Err(broken.at(number.place)),
+            Err(Fault::Other { place }) => Err(Reason::BadLayout.at(place)),
+            Err(Fault::Ended) => Err(Reason::BadLayout.at(self.text.len())),
+        }
     }
-    if tables::all_zero(&table.execution, table.count) {
-        return no_graph(Reason::NoneRuns.at(0), commented);
+
+    // As many predecessors as count says, each below n and given once, as a set.
+    fn take_predecessors(&mut self, count: u64, n: u64) -> Result<u64, Refusal>
+        requires { (1 ≤ n) × (n ≤ count_max) }
+        ensures leads { (t : TaskTable) (i time : ℕ) → t.count ≡ n → Leads self.old.text.now self.old.at (predecessor_from t i time count []) result (λ set. reading_at self.old.text.now (task_from (with_node t i time set) (i + 1)) self.new.at) }
+        ensures text { self.new.text ≡ self.old.text }
+    {
+        let mut set = 0;
+        for _ in 0..count {
+            let number = self.take_number(Reason::BadParent, 0, n - 1)?;
+            let node = number.value as usize;
+            if sets::is_member(set, node) {
+                return Err(Reason::BadParent.at(number.place));
+            }
+            set = sets::with_member(set, node);
+        }
+        Ok(set)
     }
-    Graph {
-        outcome: Ok(()),
-        table,
-        commented,
+
+    // Task i: its number, its time, the number of its predecessors and these, each below n.
+    fn take_task(&mut self, i: u64, n: u64) -> Result<Task, Refusal>
+        requires { (i < n) × (n ≤ count_max) }
+        ensures leads { (t : TaskTable) → t.count ≡ n → Leads self.old.text.now self.old.at (word (number t i)) result (λ task. reading_at self.old.text.now (task_from (with_node t i task.time task.set) (i + 1)) self.new.at) }
+        ensures text { self.new.text ≡ self.old.text }
+    {
+        self.take_number(Reason::BadLayout, i, i)?;
+        let time = self.take_number(Reason::BadExecution, 0, TaskTable::EXECUTION_MAX)?;
+        let count = self.take_number(Reason::BadParent, 0, n)?;
+        let set = self.take_predecessors(count.value, n)?;
+        Ok(Task {
+            time: time.value,
+            set,
+        })
+    }
+
+    // The tasks of a table whose head was read, into it.
+    fn take_tasks(&mut self, head: TaskTable) -> Result<TaskTable, Refusal>
+        requires { head.count ≤ count_max }
+        ensures leads { Leads self.old.text.now self.old.at (task_from head 0) result (λ table. reading_at self.old.text.now (done table) self.new.at) }
+        ensures sized { IfOk result (λ table. table.count ≤ length table.execution) }
+        ensures text { self.new.text ≡ self.old.text }
+    {
+        let mut table = head;
+        for i in 0..head.count {
+            let task = self.take_task(i as u64, head.count as u64)?;
+            table.execution[i] = task.time;
+            table.parents[i] = task.set;
+        }
+        Ok(table)
+    }
+
+    // All words up to the last task's, with the caller's id and period.
+    fn take_table(&mut self, id: u64, period: u64) -> Result<TaskTable, Refusal>
+        requires { self.old.at ≡ 0 }
+        ensures leads { graph_of self.old.text.now id period ≡ then_taken (no_graph false) result (λ table. reading_at self.old.text.now (done table) self.new.at) }
+        ensures sized { IfOk result (λ table. table.count ≤ length table.execution) }
+        ensures text { self.new.text ≡ self.old.text }
+    {
+        if !(1..=TaskTable::ID_MAX).contains(&id) {
+            return Err(Reason::BadId.at(0));
+        }
+        if !(1..=TaskTable::PERIOD_MAX).contains(&period) {
+            return Err(Reason::BadPeriod.at(0));
+        }
+        let count = self.take_number(Reason::ManyTasks, 0, TASKS_MAX)?;
+        self.take_tasks(TaskTable {
+            edition: EDITION,
+            id,
+            period,
+            count: (count.value + DUMMIES) as usize,
+            ..TaskTable::empty()
+        })
+    }
+
+    // After the last task: a comment or nothing; and not all times are 0.
+    fn end(&self, table: TaskTable) -> Graph
+        requires { table.count ≤ length table.execution }
+        ensures { result ≡ reading_at self.now.text.now (done table) self.now.at }
+    {
+        let place = graphwords::word_at(self.text, self.at);
+        let commented = place < self.text.len();
+        if commented && self.text[place] != b'#' {
+            return no_graph(Reason::BadLayout.at(place), false);
+        }
+        if tables::all_zero(&table.execution, table.count) {
+            return no_graph(Reason::NoneRuns.at(0), commented);
+        }
+        Graph {
+            outcome: Ok(()),
+            table,
+            commented,
+        }
     }
 }
 
@@ -194,8 +177,9 @@ fn end_at(text: &[u8], from: usize, table: TaskTable) -> Graph
 pub fn read_graph(text: &[u8], id: u64, period: u64) -> Graph
     ensures { result ≡ graph_of text.now id period }
 {
-    match read_tasks(text, id, period) {
-        Ok(tasks) => end_at(text, tasks.end, tasks.table),
+    let mut words = Words { text, at: 0 };
+    match words.take_table(id, period) {
+        Ok(table) => words.end(table),
         Err(refusal) => no_graph(refusal, false),
     }
 }
