@@ -3,7 +3,7 @@
 #![tactic(auto)]
 
 use boards::Board;
-use refusals::Answer;
+use refusals::{Answer, Reason, Refusal};
 
 // A table's name, and whether it came out as worked by hand.
 fn say(rt: &impl Print, name: &str, right: bool) {
@@ -11,34 +11,12 @@ fn say(rt: &impl Print, name: &str, right: bool) {
     println!(rt; "{name}: {told}").ok();
 }
 
-// Whether the words begin with those expected.
-fn begins_with(words: &[u64], expected: &[u64]) -> bool {
-    let mut i = 0;
-    while i < expected.len() {
-        if words.len() <= i {
-            return false;
-        }
-        if words[i] != expected[i] {
-            return false;
-        }
-        i += 1;
-    }
-    true
-}
-
 // A record whose plan with a cost is the expected words, and no word more.
 fn planned_with_cost(rt: &impl Print, name: &str, record: &[u8], cost: u64, expected: &[u64]) {
     let mut words = [0u64; plans::WORDS_MAX];
     let answer = plans::plan(record, &mut words, cost);
-    if answer.refusal != 0 {
-        say(rt, name, false);
-        return;
-    }
-    if answer.value != expected.len() as u64 {
-        say(rt, name, false);
-        return;
-    }
-    say(rt, name, begins_with(&words, expected));
+    let right = answer == Answer::accepted(expected.len() as u64) && words.starts_with(expected);
+    say(rt, name, right);
 }
 
 // The same without a cost.
@@ -46,97 +24,77 @@ fn planned(rt: &impl Print, name: &str, record: &[u8], expected: &[u64]) {
     planned_with_cost(rt, name, record, 0, expected);
 }
 
-// A record that with a cost is refused by this number at this place, with no set of nodes beside it.
-fn refused_with_cost(
-    rt: &impl Print,
-    name: &str,
-    record: &[u8],
-    cost: u64,
-    number: u64,
-    place: u64,
-) {
+// A record that with a cost gets this refusal, with its place and its set of nodes.
+fn refused_with_cost(rt: &impl Print, name: &str, record: &[u8], cost: u64, refusal: Refusal) {
     let mut words = [0u64; plans::WORDS_MAX];
     let answer = plans::plan(record, &mut words, cost);
-    say(
-        rt,
-        name,
-        answer.refusal == number && answer.place == place && answer.ring == 0,
-    );
+    say(rt, name, answer == Answer::refused(refusal));
 }
 
 // The same without a cost.
-fn refused(rt: &impl Print, name: &str, record: &[u8], number: u64, place: u64) {
-    refused_with_cost(rt, name, record, 0, number, place);
-}
-
-// A record that is refused by 10, with this node named and this set of nodes beside it.
-fn round(rt: &impl Print, name: &str, record: &[u8], node: u64, ring: u64) {
-    let mut words = [0u64; plans::WORDS_MAX];
-    let answer = plans::plan(record, &mut words, 0);
-    say(
-        rt,
-        name,
-        answer.refusal == 10 && answer.place == node && answer.ring == ring,
-    );
+fn refused(rt: &impl Print, name: &str, record: &[u8], refusal: Refusal) {
+    refused_with_cost(rt, name, record, 0, refusal);
 }
 
 // The board with this record's task, noted with a cost.
 fn noted(board: Board, record: &[u8], cost: u64) -> Board {
     let mut words = [0u64; plans::WORDS_MAX];
-    let change = admissions::noting(record, &mut words, board, cost);
-    boards::with_row(board, change.at, change.row)
+    match admissions::noting(record, &mut words, &board, cost) {
+        Ok(change) => boards::with_row(board, change.at, change.row),
+        Err(_) => board,
+    }
 }
 
-// Whether an admission is refused by this number without a word written; 0 is for a task that is kept, with its plan.
-fn is_admitted(board: Board, record: &[u8], cores: u64, number: u64) -> bool {
+// Whether an admission is refused for this reason without a word written, or, where there is none, the task is kept with its plan.
+fn is_admitted(board: &Board, record: &[u8], cores: u64, reason: Option<Reason>) -> bool {
     let mut words = [0u64; plans::WORDS_MAX];
-    let change = guards::admission(record, &mut words, board, cores, 0);
-    let answer = change.answer;
-    if answer.refusal == 0 {
-        return number == 0 && words[0] != 0;
+    match guards::admission(record, &mut words, board, cores, 0) {
+        Ok(_) => reason.is_none() && words[0] != 0,
+        Err(refusal) => {
+            reason.is_some_and(|told| told.number() == refusal.number) && words[0] == 0
+        }
     }
-    answer.refusal == number && words[0] == 0
 }
 
 // An admission with what is expected.
-fn admitted(rt: &impl Print, name: &str, board: Board, record: &[u8], cores: u64, number: u64) {
-    say(rt, name, is_admitted(board, record, cores, number));
+fn admitted(
+    rt: &impl Print,
+    name: &str,
+    board: &Board,
+    record: &[u8],
+    cores: u64,
+    reason: Option<Reason>,
+) {
+    say(rt, name, is_admitted(board, record, cores, reason));
 }
 
 // A record's task that is turned away by 20 on the empty board, however many cores there are.
 fn never_kept(rt: &impl Print, name: &str, record: &[u8]) {
-    let mut cores = 1;
-    while cores < 65 {
-        if !is_admitted(Board::empty(), record, cores, 20) {
-            say(rt, name, false);
-            return;
-        }
-        cores += 1;
-    }
-    say(rt, name, true);
+    let board = Board::empty();
+    let never = (1..65).all(|cores| is_admitted(&board, record, cores, Some(Reason::VerdictNo)));
+    say(rt, name, never);
 }
 
 // A verdict that is yes or no, as expected.
-fn told(rt: &impl Print, name: &str, answer: Answer, yes: u64) {
-    say(rt, name, answer.refusal == 0 && answer.value == yes);
+fn told(rt: &impl Print, name: &str, answer: Answer, yes: bool) {
+    say(rt, name, answer == Answer::accepted(u64::from(yes)));
 }
 
 // The verdict for a board that holds this record's task alone, noted with a cost.
-fn alone(rt: &impl Print, name: &str, record: &[u8], cost: u64, cores: u64, yes: u64) {
+fn alone(rt: &impl Print, name: &str, record: &[u8], cost: u64, cores: u64, yes: bool) {
     let board = noted(Board::empty(), record, cost);
-    told(rt, name, boards::asked(board, cores), yes);
+    told(rt, name, boards::asked(&board, cores), yes);
 }
 
 // The verdict for a board whose steps run to their end.
-fn to_end(rt: &impl Print, name: &str, board: Board, cores: u64, yes: u64) {
+fn to_end(rt: &impl Print, name: &str, board: &Board, cores: u64, yes: bool) {
     told(rt, name, overheads::asked_to_end(board, cores), yes);
 }
 
 // A withdrawal from the empty board.
 fn not_withdrawn(rt: &impl Print, name: &str, id: u64) {
-    let change = boards::withdrawn(Board::empty(), id);
-    let answer = change.answer;
-    say(rt, name, answer.refusal == 14 && answer.place == 0);
+    let refusal = boards::withdrawn(&Board::empty(), id).err();
+    say(rt, name, refusal == Some(Reason::NotStanding.at(0)));
 }
 
 // Plans in words: Q, s, n, the segments' triples, the nodes' triples.
@@ -236,29 +194,25 @@ fn join_slips(rt: &impl Print) {
         rt,
         "edition 1 has no joins",
         b"\x01\x07\x09\x01\x00\x00",
-        7,
-        4,
+        Reason::BadExecution.at(4),
     );
     refused(
         rt,
         "one join alone: nothing runs",
         b"\x02\x07\x09\x01\x00\x00",
-        21,
-        0,
+        Reason::NoneRuns.at(0),
     );
     refused(
         rt,
         "a byte after one join alone: 9 before 21",
         b"\x02\x07\x09\x01\x00\x00\x00",
-        9,
-        6,
+        Reason::BytesFollow.at(6),
     );
     refused(
         rt,
         "one join that is its own parent: 21 before 10",
         b"\x02\x07\x09\x01\x00\x01\x00",
-        21,
-        0,
+        Reason::NoneRuns.at(0),
     );
 }
 
@@ -276,8 +230,7 @@ fn cost_slips(rt: &impl Print) {
         "a cost of 6 does not fit it",
         b"\x01\x07\x0a\x01\x05\x00",
         6,
-        11,
-        0,
+        Reason::LongPath.at(0),
     );
     planned_with_cost(
         rt,
@@ -293,7 +246,13 @@ fn cost_slips(rt: &impl Print) {
         2,
         &PARENTS_PAY_FOR_THEMSELVES,
     );
-    refused_with_cost(rt, "a cost of 256: 26 before 1", b"", 256, 26, 0);
+    refused_with_cost(
+        rt,
+        "a cost of 256: 26 before 1",
+        b"",
+        256,
+        Reason::HighCost.at(0),
+    );
 }
 
 // The listing's verdict, which is yes on 2 cores without a cost.
@@ -304,7 +263,7 @@ fn cost_verdicts(rt: &impl Print) {
         b"\x01\x03\x06\x03\x03\x00\x01\x00\x01\x01\x01",
         1,
         4,
-        0,
+        false,
     );
     alone(
         rt,
@@ -312,7 +271,7 @@ fn cost_verdicts(rt: &impl Print) {
         b"\x01\x03\x06\x03\x03\x00\x01\x00\x01\x01\x01",
         1,
         5,
-        1,
+        true,
     );
 }
 
@@ -321,29 +280,29 @@ fn alone_to_end(rt: &impl Print) {
     to_end(
         rt,
         "an empty board: yes to the end on 1 core",
-        Board::empty(),
+        &Board::empty(),
         1,
-        1,
+        true,
     );
-    to_end(rt, "and on 64", Board::empty(), 64, 1);
+    to_end(rt, "and on 64", &Board::empty(), 64, true);
     let long = noted(Board::empty(), b"\x01\x07\xe8\x07\x01\x05\x00", 0);
     to_end(
         rt,
         "5 in 1,000: r is 5,000, yes to the end on 1 core",
-        long,
+        &long,
         1,
-        1,
+        true,
     );
     let half = noted(Board::empty(), b"\x01\x07\x0a\x01\x05\x00", 0);
     to_end(
         rt,
         "5 in 10: r is 500,000, yes to the end on 1 core",
-        half,
+        &half,
         1,
-        1,
+        true,
     );
     let tight = noted(Board::empty(), b"\x01\x07\x09\x01\x05\x00", 0);
-    to_end(rt, "5 in 9: no to the end on 1 core", tight, 1, 0);
+    to_end(rt, "5 in 9: no to the end on 1 core", &tight, 1, false);
     let listing = noted(
         Board::empty(),
         b"\x01\x03\x06\x03\x03\x00\x01\x00\x01\x01\x01",
@@ -352,11 +311,11 @@ fn alone_to_end(rt: &impl Print) {
     to_end(
         rt,
         "the listing: r is 1,250,000, no to the end on 2 cores",
-        listing,
+        &listing,
         2,
-        0,
+        false,
     );
-    to_end(rt, "and on 64", listing, 64, 0);
+    to_end(rt, "and on 64", &listing, 64, false);
 }
 
 // The slips of that verdict: a join counted, the longest and the shortest of one task alone, r rounded down.
@@ -367,7 +326,7 @@ fn to_end_slips(rt: &impl Print) {
         b"\x02\x09\x0a\x04\x02\x00\x04\x00\x00\x02\x00\x01\x01\x01\x02",
         0,
         4,
-        1,
+        true,
     );
     let joined = noted(
         Board::empty(),
@@ -377,21 +336,21 @@ fn to_end_slips(rt: &impl Print) {
     to_end(
         rt,
         "a join has no deadline to be the shortest: no to the end",
-        joined,
+        &joined,
         4,
-        0,
+        false,
     );
     let one = noted(Board::empty(), b"\x01\x01\x0c\x01\x03\x00", 0);
-    to_end(rt, "3 in 12 alone: yes to the end on 1 core", one, 1, 1);
+    to_end(rt, "3 in 12 alone: yes to the end on 1 core", &one, 1, true);
     let both = noted(one, b"\x01\x02\x0f\x01\x05\x00", 0);
     to_end(
         rt,
         "with 5 in 15: 5 over 12, rounded up, no to the end on 1 core",
-        both,
+        &both,
         1,
-        0,
+        false,
     );
-    to_end(rt, "and yes on 2", both, 2, 1);
+    to_end(rt, "and yes on 2", &both, 2, true);
 }
 
 // The slips of a guard: a task that just fits turned away, one that does not fit kept, a rule in another place.
@@ -399,29 +358,36 @@ fn guard_slips(rt: &impl Print) {
     admitted(
         rt,
         "5 in 5 just fits 1 core",
-        Board::empty(),
+        &Board::empty(),
         b"\x01\x07\x05\x01\x05\x00",
         1,
-        0,
+        None,
     );
     let full = noted(Board::empty(), b"\x01\x07\x05\x01\x05\x00", 0);
     admitted(
         rt,
         "5 in 1,000 beside it: 20",
-        full,
+        &full,
         b"\x01\x08\xe8\x07\x01\x05\x00",
         1,
-        20,
+        Some(Reason::VerdictNo),
     );
     admitted(
         rt,
         "with the id that stands: 12 before 20",
-        full,
+        &full,
         b"\x01\x07\xe8\x07\x01\x05\x00",
         1,
-        12,
+        Some(Reason::IdStands),
     );
-    admitted(rt, "for 0 cores: 15 before 1", full, b"", 0, 15);
+    admitted(
+        rt,
+        "for 0 cores: 15 before 1",
+        &full,
+        b"",
+        0,
+        Some(Reason::BadCores),
+    );
     never_kept(
         rt,
         "the chain is turned away on every count",
@@ -438,7 +404,7 @@ fn other_slips(rt: &impl Print) {
         b"\x01\x06\x03\x03\x01\x00\x01\x00\x01\x00",
         0,
         1,
-        0,
+        false,
     );
     alone(
         rt,
@@ -446,21 +412,19 @@ fn other_slips(rt: &impl Print) {
         b"\x01\x06\x03\x03\x01\x00\x01\x00\x01\x00",
         0,
         2,
-        1,
+        true,
     );
     refused(
         rt,
         "a parent equal to the one before it",
         b"\x01\x05\x0a\x02\x03\x00\x04\x02\x00\x00",
-        8,
-        9,
+        Reason::BadParent.at(9),
     );
-    round(
+    refused(
         rt,
         "a loop of 1, 3 and 4, on which 0 hangs and which hangs on 2",
         b"\x01\x05\x0a\x05\x01\x01\x03\x01\x01\x04\x01\x00\x01\x01\x01\x01\x02\x02\x03",
-        1,
-        26,
+        Refusal::looped(1, 26),
     );
 }
 
