@@ -54,6 +54,7 @@ fn is_count(value: u64) -> bool
 }
 
 // The rules, in their order. The order of the numbers is nothing to their limit and their size, so both are asked of the words as they stand.
+#[tactic(auto, unfolding(crate::specs::Writing::before_writing))]
 fn before_writing(words: &[u64], room: usize, id: u64) -> Result<(), Refusal>
     ensures { result ≡ before_writing words.now room id }
 {

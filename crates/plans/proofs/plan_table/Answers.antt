@@ -3,11 +3,10 @@
 use mathlib.Core.Path.{◌≡◌, refl, sym, ap, ◌∙◌}
 use mathlib.Core.Bool.{false}
 use mathlib.Core.List.{List, ◌++◌}
-use Prim.Native.Nat.{ℕ, ◌+◌, ◌*◌, ◌^◌, ◌≤◌}
+use Prim.Native.Nat.{ℕ, ◌+◌, ◌*◌, ◌≤◌}
 use native.Mathlib.Omega.{arith}
 use lib.ListN.{drop}
 use Rattle.std.specs.Prelude.{Result, Ok, Err, ⊤}
-use Rattle.plain.specs.At.{at}
 use Rattle.refusals.specs.declared.Refusal.{Refusal}
 use Rattle.refusals.proofs.Out.{goes-out}
 use Rattle.tables.specs.Cost.{costed}
@@ -22,7 +21,7 @@ use Rattle.plans.specs.Calls.{on_table, unplanned}
 use Rattle.plans.specs.Inner.Planned.{Planned}
 use Rattle.plans.specs.Inner.Drawn.{SegmentsOf, NodesOf}
 use Rattle.plans.specs.Inner.Table.{unless_later}
-use Rattle.plans.proofs.Table.{tidy, path-latest}
+use Rattle.plans.proofs.Table.{path-latest}
 use Rattle.plans.proofs.Drawn.{path-so}
 use Rattle.plans.proofs.Front.{front-back, past-front}
 use Rattle.plans.proofs.Tests.{on_fits, tested-so, table-out, table-in}
@@ -36,22 +35,10 @@ add_cost-requires c =
     let paid = at-cost a.table.now.execution a.cost in
     (r.count-high, λ v. rw (paid v) at (r.run-high v), λ v h. cost-none a.cost _ (sym (paid v) ∙ r.run_past v h))
 
--- an execution with its cost is small enough for any sum of finishes
-light : (c : After-add_cost) (v : ℕ) → at c.add_cost.new.executions v ≤ 2 ^ 57
-light c v = rw c.add_cost.ensures (let high = c.requires.0.run-high v in omega arith)
-
-pub sweep-swept-requires : goal.sweep-swept-requires
-sweep-swept-requires c =
-    let r = c.requires.0 in
-    record { fits = r.count-high; tidy = tidy r; light = light (goal.at.sweep-swept-requires c).After-add_cost }
-
 -- the run is the table's, with its cost
 traced : (c : After-sweep-swept) → (let t = costed c.args.table.now c.args.cost in let r = c.sweep-swept.result in let l = c.sweep-swept.new.trace in
     Traced t.parents t.execution t.count r.done r.cut.number r.cut.time (threads_of l.segments) (enders_of l.segments) l.finishes l.first l.last)
-traced c = rw c.add_cost.ensures at c.sweep-swept.ensures
-
-pub tested-requires : goal.tested-requires
-tested-requires c = let r = c.requires.0 in (r.count-high, tidy r, (traced (goal.at.tested-requires c).After-sweep-swept).told)
+traced c = rw (← c.add_cost.ensures) c.sweep-swept.ensures
 
 -- the tests are the table's own
 answered : (c : After-tested) → (let t = costed c.args.table.now c.args.cost in c.tested.result ≡ on_table Err (λ _. c.args.later) t)
@@ -73,9 +60,6 @@ passed c = table-in (costed c.args.table.now c.args.cost) c.args.later (sym (ans
 
 planned : (c : In_ok-tested) → Planned (costed c.args.table.now c.args.cost)
 planned c = record { range = c.requires.0; free = (passed c).0; fits = (passed c).1 }
-
-pub weigh-weighed-requires : goal.weigh-weighed-requires
-weigh-weighed-requires c = (c.requires.0.count-high, light (goal.at.weigh-weighed-requires c).After-add_cost)
 
 segments-of : (c : After-weigh-weighed) → (let t = costed c.args.table.now c.args.cost in let r = c.sweep-swept.result in
     SegmentsOf t t.count r.cut.number (record { period = t.period; work = c.weigh-weighed.result.work; path = r.cut.time }) c.sweep-swept.new.trace)

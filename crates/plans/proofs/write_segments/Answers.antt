@@ -2,7 +2,7 @@
 -- beside them, and the head is written last.
 use mathlib.Core.Path.{◌≡◌, ap, ◌∙◌}
 use native.Mathlib.Omega.{arith}
-use lib.ListN.{length-set, length-take}
+use lib.ListN.{length-take}
 use Rattle.tables.specs.declared.TaskTable.{TaskTable}
 use Rattle.segments.specs.Inner.Words.{CutWords}
 use Rattle.segments.proofs.Listed.{front-in, front-words}
@@ -68,12 +68,3 @@ deal_of-deal-requires c = dealt (goal.at.deal_of-deal-requires c).After-cut_word
 pub fill_numerators-requires : goal.fill_numerators-requires
 fill_numerators-requires c =
     rw c.deal_of-deal.ensures (fill-in (dealt (goal.at.fill_numerators-requires c).After-cut_words _ c.requires.0.1))
-
-pub bounds-words-1 : goal.bounds-words-1
-bounds-words-1 c = simp length-set (omega arith)
-
-pub bounds-words-2 : goal.bounds-words-2
-bounds-words-2 c = simp length-set (omega arith)
-
-pub shape_of-words : goal.shape_of-words
-shape_of-words c = simp length-set (omega arith)

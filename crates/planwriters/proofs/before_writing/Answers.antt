@@ -2,13 +2,12 @@
 -- numbers that they become.
 use Rattle.std.specs.Prelude.{Result, Ok, Err, ⊤}
 use Prim.Native.Nat.{◌+◌}
-use mathlib.Core.Path.{◌≡◌, refl, sym, ap, ap₂, ◌∙◌}
+use mathlib.Core.Path.{◌≡◌, refl, ap, ap₂, ◌∙◌}
 use mathlib.Core.Logic.{inl, inr}
 use native.Mathlib.Omega.{arith}
 use borrow.Author.Tests.{lt-ltb, le-ltb}
 use lib.Dec.{ltb}
 use lib.ListN.{length, take, length-take}
-use lib.Seq.{length-take-le}
 use Rattle.plain.specs.Pick.{pick}
 use Rattle.plain.proofs.Tests.{pick_yes, pick_no, passed, failed, between-true}
 use Rattle.refusals.specs.Numbers.{wrong_length}
@@ -21,19 +20,6 @@ use Rattle.planwriters.proofs.Small.{small-values, values-small}
 use Rattle.planwriters.proofs.Numbers.{counted-whole, big-number, parts-numbers-small, numbers-size, plan-length}
 use Rattle.planwriters.proofs.before_writing.Goals as goal
 use Rattle.planwriters.proofs.before_writing.Goals.{After-size_of, Else-not-are_small, Else-not-is_count-2, then-id-ge-VALUE_LIMIT-via-else-id-ge-VALUE_LIMIT+then-not-are_small, then-id-ge-VALUE_LIMIT-via-then-id-ge-VALUE_LIMIT}
-
-pub returns-then-words-lt-WORDS_MAX : goal.returns-then-words-lt-WORDS_MAX
-unfolding before_writing
-returns-then-words-lt-WORDS_MAX c = pick_yes _ (lt-ltb _ _ c.if-words-lt-WORDS_MAX.true) (ap Err c.at.ensures)
-
-pub returns-then-not-is_count : goal.returns-then-not-is_count
-unfolding before_writing
-returns-then-not-is_count c = pick_no _ (le-ltb _ _ c.if-words-lt-WORDS_MAX.false) (pick_no _ (failed c.is_count.ensures c.if-not-is_count.true) (ap Err c.at-then-not-is_count.ensures))
-
-pub returns-then-not-is_count-2 : goal.returns-then-not-is_count-2
-unfolding before_writing
-returns-then-not-is_count-2 c = pick_no _ (le-ltb _ _ c.if-words-lt-WORDS_MAX.false) (pick_yes _ (passed c.is_count.ensures c.if-not-is_count.false)
-    (pick_no _ (failed c.is_count-2.ensures c.if-not-is_count-2.true) (ap Err c.at-then-not-is_count-2.ensures)))
 
 counted : (c : Else-not-is_count-2) → Counted c.args.words.now
 counted c =
@@ -49,21 +35,6 @@ later : (c : Else-not-is_count-2) {o : Result ⊤ Refusal} → o ≡ after_count
 unfolding before_writing
 later c e = pick_no _ (le-ltb _ _ c.if-words-lt-WORDS_MAX.false) (pick_yes _ (passed c.is_count.ensures c.if-not-is_count.false)
     (pick_yes _ (passed c.is_count-2.ensures c.if-not-is_count-2.false) e))
-
-pub overflow_mul-written : goal.overflow_mul-written
-overflow_mul-written c = omega (arith, (counted (goal.at.overflow_mul-written c).Else-not-is_count-2).segments-high)
-
-pub overflow_add-written : goal.overflow_add-written
-overflow_add-written c = omega (arith, (counted (goal.at.overflow_add-written c).Else-not-is_count-2).segments-high)
-
-pub overflow_mul-written-2 : goal.overflow_mul-written-2
-overflow_mul-written-2 c = omega (arith, (counted (goal.at.overflow_mul-written-2 c).Else-not-is_count-2).nodes-high)
-
-pub overflow_add-written-2 : goal.overflow_add-written-2
-overflow_add-written-2 c = omega (arith, (counted (goal.at.overflow_add-written-2 c).Else-not-is_count-2).segments-high, (counted (goal.at.overflow_add-written-2 c).Else-not-is_count-2).nodes-high)
-
-pub slice_bounds-written-end : goal.slice_bounds-written-end
-slice_bounds-written-end c = sym (length-take-le _ _ (whole (goal.at.slice_bounds-written-end c).Else-not-is_count-2))
 
 pub returns-then-id-ge-VALUE_LIMIT : goal.returns-then-id-ge-VALUE_LIMIT
 returns-then-id-ge-VALUE_LIMIT c = later (goal.at.returns-then-id-ge-VALUE_LIMIT c).Else-not-is_count-2 (pick_no _ (big-number c.args.words.now (whole (goal.at.returns-then-id-ge-VALUE_LIMIT c).Else-not-is_count-2) _ (elim c.then-id-ge-VALUE_LIMIT.branch [ then-id-ge-VALUE_LIMIT-via-then-id-ge-VALUE_LIMIT w ↦ inl w.if-id-ge-VALUE_LIMIT.true | then-id-ge-VALUE_LIMIT-via-else-id-ge-VALUE_LIMIT+then-not-are_small w ↦ inr (failed w.are_small.ensures w.if-not-are_small.true) ])) (ap Err c.at-then-id-ge-VALUE_LIMIT.ensures))

@@ -1,10 +1,9 @@
 -- `planwriters::write_numbers` meets its contract: its parts are written one after the other, and there is room for each.
-use mathlib.Core.Path.{◌≡◌, sym, ◌∙◌}
+use mathlib.Core.Path.{◌≡◌, ◌∙◌}
 use mathlib.Core.List.{[], ◌∷◌, ◌++◌}
 use native.Mathlib.Nat.{zero-add}
 use native.Mathlib.Omega.{arith}
 use lib.ListN.{take, drop}
-use lib.Seq.{length-take-le}
 use Rattle.plain.specs.At.{at}
 use Rattle.numbers.specs.Number.{plan_more}
 use Rattle.numbers.proofs.Written.{Wrote}
@@ -21,9 +20,6 @@ write_number-head_at-requires c = id-room c.requires
 -- the id is written
 id-put : (c : After-write_number-head_at) → (let a = c.args in Wrote plan_more a.bytes.now 0 (a.id ∷ []) c.write_number-head_at.new.bytes c.write_number-head_at.result)
 id-put c = wrote-id c.requires c.write_number-head_at.ensures.value c.write_number-head_at.ensures.bytes_after
-
-pub slice_bounds-write_values-end : goal.slice_bounds-write_values-end
-slice_bounds-write_values-end c = sym (length-take-le 2 c.args.words.now (omega (arith, c.requires.counted.enough)))
 
 -- the words that Q and the segments' count are, and the nodes' count
 two : (s : Start) → (let words = s.args.words.now in take 2 words ≡ at words 0 ∷ at words 1 ∷ [])
