@@ -9,6 +9,7 @@ use lib.Dec.{eqb, leb}
 use borrow.Author.Tests.{eqb-true, leb-true, le-leb}
 use Rattle.plain.specs.Pick.{pick}
 use Rattle.plain.proofs.Picks.{true-false}
+use Rattle.plain.proofs.Tests.{not-held}
 use Rattle.sets.specs.Inner.Put.{with_member}
 use Rattle.tables.specs.Limits.{count_max}
 use Rattle.listings.specs.Lists.{is_listed, list_set, without, firsts, ascends, reordered, dropped}
@@ -53,19 +54,12 @@ without-none (q ∷ l) p n = by (eqb q p) n (without-none l p)
     by true n again = absurd (true-false refl n)
     by false n again = ap (◌∷◌ q) (again n)
 
-not_listed : (l : List ℕ) (k : ℕ) → (is_listed l k ≡ true → ⊥) → is_listed l k ≡ false
-not_listed l k n = by (is_listed l k) refl
-  where
-    by : (b : Bool) → is_listed l k ≡ b → b ≡ false
-    by true e = absurd (n e)
-    by false e = refl
-
 ascends-firsts : (l : List ℕ) (low : ℕ) → ascends l low ≡ true → firsts l ≡ l
 unfolding ascends firsts
 ascends-firsts [] low e = refl
 ascends-firsts (p ∷ l) low e =
     let q = (both (leb low p) _ e).1 in
-    ap (◌∷◌ p) (ap (λ (m : List ℕ). without m p) (ascends-firsts l (p + 1) q) ∙ without-none l p (not_listed l p λ m. omega (arith, ascends-least l (p + 1) p q m)))
+    ap (◌∷◌ p) (ap (λ (m : List ℕ). without m p) (ascends-firsts l (p + 1) q) ∙ without-none l p (not-held (is_listed l p) λ m. omega (arith, ascends-least l (p + 1) p q m)))
 
 -- nothing to mend
 pub ascends-tidy : (l : List ℕ) → ascends l 0 ≡ true → (reordered l ≡ 0) × (dropped l ≡ 0)
@@ -78,4 +72,4 @@ module _ (l : List ℕ) (v : ℕ) (e : ascends l 0 ≡ true) (h : past l 0 ≤ v
 
   pub set_more : v < count_max → list_set (l ++ v ∷ []) ≡ list_set l + 2 ^ v
   unfolding with_member
-  set_more b = set-behind l v b ∙ rw (member-listed l v b, not_listed l v λ m. omega (arith, ascends-below l 0 v e m))
+  set_more b = set-behind l v b ∙ rw (member-listed l v b, not-held (is_listed l v) λ m. omega (arith, ascends-below l 0 v e m))

@@ -15,7 +15,6 @@ use Rattle.refusals.specs.Answer as answer
 use Rattle.refusals.specs.After.{After}
 use Rattle.tables.specs.declared.TaskTable.{TaskTable}
 use Rattle.tables.specs.Runs.{all_zero}
-use Rattle.numbers.proofs.Cases.{clash}
 use Rattle.records.proofs.Answers.{Filling}
 use Rattle.writers.specs.Record.{numbers_of, record_of}
 use Rattle.writers.specs.Ranges.{ranges}
@@ -43,7 +42,7 @@ not_zero t b r e q = by (all_zero t.execution t.count) (ltb (length b) (length (
     by : (z s : Bool) → all_zero t.execution t.count ≡ z → ltb (length b) (length (record_of t)) ≡ s → eqb r.number 0 ≡ false
     by true s f g = let x = rw (e, f) at q in let same : r ≡ refusal none_runs 0 = cc in rw same
     by false true f g = let x = rw (e, f, g) at q in let same : r ≡ refusal wrong_length (length b) = cc in rw same
-    by false false f g = let x = rw (e, f, g) at q in clash (cc)
+    by false false f g = let x = rw (e, f, g) at q in cc
 
 module _ (given bytes : List ℕ) where
   pub call-refused : (r : Refusal) → (draft_of given).outcome ≡ Err r → mend_call given bytes ≡ unmended bytes r

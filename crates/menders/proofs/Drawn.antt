@@ -15,7 +15,6 @@ use Rattle.plain.specs.Pick.{pick}
 use Rattle.plain.specs.At.{at}
 use Rattle.std.specs.Prelude.{Ok}
 use Rattle.tables.specs.declared.TaskTable.{TaskTable}
-use Rattle.numbers.proofs.Cases.{clash}
 use Rattle.records.specs.Nodes.{with_node}
 use Rattle.records.specs.Reading.{headed}
 use Rattle.records.specs.Expected as reader
@@ -109,7 +108,7 @@ pub was-drawn : (s : List ℕ) → (draft_of s).outcome ≡ Ok tt → Drawn s
 was-drawn s e = by (comes s)
   where
     by : Comes s → Drawn s
-    by (refuses f) = clash (let q = ap (λ (x : Draft). x.outcome) (sym (rule-refused s f)) ∙ e in cc)
+    by (refuses f) = absurd (let q = ap (λ (x : Draft). x.outcome) (sym (rule-refused s f)) ∙ e in cc)
     by (gives {t} {padded} {lists} m) =
         let q = given-drawn s m in
         let same : t ≡ (draft_of s).table = ap (λ (x : Draft). x.table) (sym q) in

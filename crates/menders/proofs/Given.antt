@@ -24,7 +24,6 @@ use Rattle.tables.specs.Limits.{edition_max, id_max, period_max, count_max, exec
 use Rattle.numbers.specs.Number.{record_more}
 use Rattle.numbers.specs.Form.{Ends, Long}
 use Rattle.numbers.proofs.Forms as forms
-use Rattle.numbers.proofs.Cases.{clash}
 use Rattle.records.specs.Nodes.{with_node}
 use Rattle.records.specs.Reading.{headed}
 use Rattle.records.proofs.Expected.{ByRule, by-rule}
@@ -203,4 +202,4 @@ module _ (s : List ℕ) where
     where
       by : Comes → ByRule (Refuses s) r
       by (refuses f) = by-rule (Refuses s) f (ap (λ (x : Draft). x.outcome) (sym (rule-refused f)) ∙ q)
-      by (gives m) = clash (let e = ap (λ (x : Draft). x.outcome) (sym (given-drawn m)) ∙ q in cc)
+      by (gives m) = absurd (let e = ap (λ (x : Draft). x.outcome) (sym (given-drawn m)) ∙ q in cc)

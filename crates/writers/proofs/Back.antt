@@ -3,7 +3,7 @@
 use Prim.Native.Nat.{ℕ, zero, suc, ◌+◌, ◌^◌, ◌≤◌, ◌<◌, zero-le}
 use mathlib.Core.Path.{◌≡◌, refl, sym, ap₂, ◌∙◌}
 use mathlib.Core.Logic.{⊎_elim}
-use mathlib.Core.List.{List, [], ◌∷◌, ◌++◌, append_assoc, append-nil}
+use mathlib.Core.List.{List, [], ◌++◌, append_assoc, append-nil}
 use native.Mathlib.Nat.{add-zero, eq-or-lt_of_le, le_refl, lt_of_lt_of_le}
 use native.Mathlib.Numerals.{add-one}
 use native.Mathlib.Omega.{arith}
@@ -11,6 +11,7 @@ use lib.ListN.{length, set, replicate}
 use lib.Pow.{pow_mono}
 use borrow.Author.Tests.{lt-ltb, le-ltb}
 use Rattle.std.specs.Prelude.{Ok}
+use Rattle.std.proofs.lemmas.Grind.{same_number_lists}
 use Rattle.plain.specs.At.{at}
 use Rattle.plain.proofs.Lists.{lt-or-ge, Filled, fill-zeros, fill_more}
 use Rattle.sets.specs.Members.{members}
@@ -78,15 +79,9 @@ unfolding fill_to
 fill_to-filled l zero h = fill-zeros (at l) count_max
 fill_to-filled l (suc i) h = rw (← (add-one i)) (fill_more (at l i) h refl (fill_to-filled l i (omega arith)))
 
-pub same-list : (a b : List ℕ) → length a ≡ length b → ((k : ℕ) → at a k ≡ at b k) → a ≡ b
-same-list [] [] e p = refl
-same-list [] (y ∷ b) e p = absurd (omega arith)
-same-list (x ∷ a) [] e p = absurd (omega arith)
-same-list (x ∷ a) (y ∷ b) e p = ap₂ ◌∷◌ (p 0) (same-list a b (omega arith) (λ k. p (suc k)))
-
 fill_to-all : (l : List ℕ) (n : ℕ) → n ≤ count_max → length l ≡ count_max → ((v : ℕ) → n ≤ v → at l v ≡ 0) → fill_to l n ≡ l
 fill_to-all l n h e past = let f = fill_to-filled l n h in
-    same-list (fill_to l n) l (f.size ∙ sym e) λ v.
+    same_number_lists (fill_to l n) l (f.size ∙ sym e) λ v _.
     ⊎_elim (λ (q : v < n). f.done v q) (λ (q : n ≤ v). f.rest v q ∙ sym (past v q)) (lt-or-ge v n)
 
 -- the table with the nodes before node i

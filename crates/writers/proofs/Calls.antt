@@ -20,7 +20,6 @@ use Rattle.refusals.proofs.InOrder.{all-accepted}
 use Rattle.tables.specs.declared.TaskTable.{TaskTable}
 use Rattle.tables.specs.Runs.{all_zero}
 use Rattle.numbers.specs.Number.{record_more}
-use Rattle.numbers.proofs.Cases.{clash}
 use Rattle.numbers.proofs.Written.{sets-front, written-length, Wrote}
 use Rattle.writers.specs.Record.{numbers_written, numbers_of, record_of}
 use Rattle.writers.specs.Ranges.{ranges}
@@ -32,7 +31,7 @@ use Rattle.writers.proofs.Table.{trial-ranges, trial-place}
 
 -- a rule that passes is not broken
 pub unless-passed : (broken : Bool) (number place : ℕ) → unless broken number place ≡ Ok tt → broken ≡ false
-unless-passed true number place e = clash (cc)
+unless-passed true number place e = cc
 unless-passed false number place e = refl
 
 -- all rules pass: the ranges, some node runs, and there is room

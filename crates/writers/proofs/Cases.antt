@@ -19,7 +19,6 @@ use Rattle.sets.specs.Size.{size_to, size}
 use Rattle.sets.proofs.Sizes.{size-full}
 use Rattle.numbers.specs.Shortest.{shortest}
 use Rattle.numbers.specs.Inner.Word.{word_more}
-use Rattle.numbers.proofs.Cases.{clash}
 use Rattle.numbers.proofs.Shortest.{shortest-length}
 use Rattle.writers.specs.Inner.Trial.{node_max, Trial, passed, stopped, tried, parents_tried, node_tried, nodes_tried, head_tried}
 
@@ -43,15 +42,15 @@ module _ (broken low high v : ℕ) where
 
   pub tried-passed : (r : Trial) (next : ℕ) → tried broken low high v r ≡ Ok next → InRange low high v r next
   unfolding tried
-  tried-passed (Err x) next h = clash (cc)
+  tried-passed (Err x) next h = cc
   tried-passed (Ok place) next h = by (leb low v) (leb v high) refl refl h
     where
       by : (a b : Bool) → leb low v ≡ a → leb v high ≡ b
           → pick (a && b) (passed (place + length (shortest word_more v))) (stopped broken place) ≡ Ok next → InRange low high v (Ok place) next
       by true true p q h = record { place = place; came = refl; least = leb-true low v p; most = leb-true v high q; next-is = cc }
-      by true false p q h = clash (cc)
-      by false true p q h = clash (cc)
-      by false false p q h = clash (cc)
+      by true false p q h = cc
+      by false true p q h = cc
+      by false false p q h = cc
 
   pub tried-near : (place next : ℕ) → Ok next ≡ tried broken low high v (Ok place) → next ≤ place + suc word_more
   tried-near place next h =
@@ -77,12 +76,12 @@ module _ (n set : ℕ) where
 
   pub parents-passed : (r : Trial) (next : ℕ) → parents_tried n set r ≡ Ok next → AllNodes n set r next
   unfolding parents_tried
-  parents-passed (Err x) next h = clash (cc)
+  parents-passed (Err x) next h = cc
   parents-passed (Ok place) next h = by (ltb (size_to n set) (size set)) refl h
     where
       by : (t : Bool) → ltb (size_to n set) (size set) ≡ t
           → pick t (stopped bad_parent (place + size_to n set)) (passed (place + size_to n set)) ≡ Ok next → AllNodes n set (Ok place) next
-      by true p h = clash (cc)
+      by true p h = cc
       by false p h = record { place = place; came = refl; all = ltb-false _ _ p; next-is = cc }
 
   pub parents-near : (place next : ℕ) → Ok next ≡ parents_tried n set (Ok place) → next ≤ place + n

@@ -15,7 +15,6 @@ use Rattle.refusals.specs.Refusal.{refusal}
 use Rattle.numbers.specs.Number.{record_more}
 use Rattle.numbers.specs.Shortest.{shortest, all_shortest}
 use Rattle.numbers.specs.Form.{Whole}
-use Rattle.numbers.proofs.Cases.{clash}
 use Rattle.numbers.proofs.Shortest.{shortest-whole}
 use Rattle.numbers.proofs.Written.{written-append, written-length}
 use Rattle.records.specs.Expected.{range, Next, after, Expects, Refuses}
@@ -43,8 +42,8 @@ module _ (numbers : List ℕ) where
   from : (rest : List ℕ) (place : ℕ) (next : Next) → Stands numbers place next rest → (r : Refusal) → ranges_from rest next place ≡ Err r →
       (broken : ℕ) × (at : ℕ) × Outside numbers broken at × (r ≡ refusal broken at)
   unfolding ranges_from
-  from [] place next s r e = clash (cc)
-  from (v ∷ rest) place (nothing t) s r e = clash (cc)
+  from [] place next s r e = cc
+  from (v ∷ rest) place (nothing t) s r e = cc
   from (v ∷ rest) place (number due) s r e = ⊎_elim
       (λ (l : v < (range due).low). out (inl l))
       (λ (l : (range due).low ≤ v). ⊎_elim

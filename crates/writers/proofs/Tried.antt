@@ -28,7 +28,6 @@ use Rattle.tables.specs.Limits.{count_max, execution_max, least_execution}
 use Rattle.numbers.specs.Number.{record_more}
 use Rattle.numbers.specs.Shortest.{shortest}
 use Rattle.numbers.specs.Inner.Word.{word_more}
-use Rattle.numbers.proofs.Cases.{clash}
 use Rattle.numbers.proofs.Shortest.{shortest-fewer}
 use Rattle.records.specs.Nodes.{with_node}
 use Rattle.records.specs.Reading.{headed}
@@ -54,7 +53,7 @@ module _ (due : Due) (v : ℕ) (vs : List ℕ) (place : ℕ) where
 -- a trial that refuses nothing came to a place
 pub came : (r : Trial) → outcome_of r ≡ Ok tt → (next : ℕ) × (r ≡ Ok next)
 came (Ok place) e = (place, refl)
-came (Err x) e = clash (cc)
+came (Err x) e = cc
 
 -- what the numbers from a trial on come to, where a reader expects `next`
 pub go_on : Trial → (next : Next) → List ℕ → Result ⊤ Refusal

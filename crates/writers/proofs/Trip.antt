@@ -6,6 +6,7 @@ use mathlib.Core.Logic.{⊎_elim}
 use mathlib.Core.List.{List}
 use lib.ListN.{length, take, get_or-eq_default}
 use lib.Seq.{length-take-le, get_or-take}
+use Rattle.std.proofs.lemmas.Grind.{same_number_lists}
 use Rattle.plain.specs.At.{at}
 use Rattle.plain.proofs.Lists.{lt-or-ge}
 use Rattle.tables.specs.declared.TaskTable.{TaskTable}
@@ -20,7 +21,7 @@ use Rattle.records.proofs.Answers.{Filling, spelt-range}
 use Rattle.writers.specs.Record.{record_of, Spells}
 use Rattle.writers.specs.Writing.{filled, table_of, record_put, writing, write_call}
 use Rattle.writers.proofs.Again.{read_again}
-use Rattle.writers.proofs.Back.{same-list, range-filling, table-ranges, record-read}
+use Rattle.writers.proofs.Back.{range-filling, table-ranges, record-read}
 use Rattle.writers.proofs.Parts.{at-filled}
 use Rattle.writers.proofs.Tried.{came}
 use Rattle.writers.proofs.Table.{filled-length, trial-ranges, trial-range}
@@ -45,7 +46,7 @@ passed-spells X P b x d p same words pass =
 cut-filled : (l : List ℕ) (n : ℕ) → length l ≡ count_max → n ≤ count_max → ((v : ℕ) → n ≤ v → at l v ≡ 0) → filled (take n l) ≡ l
 cut-filled l n e h past =
     let size : length (take n l) ≡ n = length-take-le n l (rw e h) in
-    same-list (filled (take n l)) l (filled-length (take n l) (rw size h) ∙ sym e) λ v. at-filled (take n l) v ∙ ⊎_elim
+    same_number_lists (filled (take n l)) l (filled-length (take n l) (rw size h) ∙ sym e) λ v _. at-filled (take n l) v ∙ ⊎_elim
     (λ (b : v < n). get_or-take n l v 0 b)
     (λ (b : n ≤ v). get_or-eq_default (take n l) 0 {n = v} (rw size b) ∙ sym (past v b))
     (lt-or-ge v n)

@@ -77,6 +77,7 @@ fn write_members(bytes: &mut [u8], from: usize, set: u64) -> usize
 {
     let mut left = set;
     let mut at = from;
+    // A `while`: only the set tells how many members are to come, so a `for` over the places would need its size first, which is no plainer.
     while left != 0 {
         bytes[at] = left.trailing_zeros() as u8;
         left &= left - 1;

@@ -24,14 +24,8 @@ low c = walk c.loop-left.left c.loop-left-test.true c.loop-left.invariant.0
 first : (c : In-loop-left) → (let s = c.loop-left.left in members 64 s ≡ count_trailing_zeros 64 s ∷ members 64 (bit_and s (s - 1)))
 first c = let w = low c in members-out 64 _ _ w.lt w.mem w.low ∙ ap (λ (r : ℕ). count_trailing_zeros 64 c.loop-left.left ∷ members 64 r) (sym w.out)
 
-pub overflow_cast-bytes : goal.overflow_cast-bytes
-overflow_cast-bytes c = omega (arith, (low (goal.at.overflow_cast-bytes c).In-loop-left).lt)
-
 pub bounds-bytes-at : goal.bounds-bytes-at
 bounds-bytes-at c = omega (arith, ap length (first (goal.at.bounds-bytes-at c).In-loop-left))
-
-pub loop-left-smaller : goal.loop-left-smaller
-loop-left-smaller c = (low (goal.at.loop-left-smaller c).In-loop-left).less
 
 pub loop-left-preserved : goal.loop-left-preserved
 loop-left-preserved c = let l = c.loop-left in (
@@ -40,9 +34,6 @@ loop-left-preserved c = let l = c.loop-left in (
   omega (arith, l.invariant.2, ap length (first (goal.at.loop-left-preserved c).In-loop-left)),
   length-set l.bytes l.at _ ∙ l.invariant.3,
 )
-
-pub shape_of-bytes : goal.shape_of-bytes
-shape_of-bytes c = c.loop-left.invariant.3
 
 pub returns : goal.returns
 returns c = let l = c.loop-left in let none = ap (members 64) c.loop-left-test.false ∙ no-members 64 in

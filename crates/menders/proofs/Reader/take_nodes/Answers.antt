@@ -1,10 +1,9 @@
 -- `Reader::take_nodes` meets its contract. The loop's invariant: the nodes still to be taken, put into the table so far, make the whole draft; each
 -- node adds one to the lists reordered at most, and 255 to the parents dropped.
-use Prim.Native.Nat.{ℕ, ◌-◌}
-use mathlib.Core.Path.{◌≡◌, refl, sym, ap, ◌∙◌}
+use Prim.Native.Nat.{ℕ}
+use mathlib.Core.Path.{sym, ap, ◌∙◌}
 use native.Mathlib.Omega.{arith}
 use lib.ListN.{length, length-set}
-use borrow.Author.Rules.{rules}
 use Rattle.refusals.specs.declared.Refusal.{Refusal}
 use Rattle.refusals.proofs.Out.{goes-out}
 use Rattle.listings.specs.Lists.{given_max}
@@ -14,10 +13,6 @@ use Rattle.menders.proofs.Cases.{then-read, then-refused, then-found, then-none,
 use Rattle.menders.proofs.Inside.{along, list-along, Few, parents-bounded}
 use Rattle.menders.proofs.Reader.take_nodes.Goals as goal
 use Rattle.menders.proofs.Reader.take_nodes.Goals.{In_ok-execution, In_ok-list}
-
-pub loop-v-init : goal.loop-v-init
-loop-v-init c = let n = c.args.head.count in let e : n - 0 ≡ n = omega arith in let (p, (x, y)) = c.default-counts.ensures in
-    (rw (e, x, y), c.least_execution-least.ensures, refl, refl, search rules, search rules, omega arith, omega arith)
 
 pub returns-in_err-execution : goal.returns-in_err-execution
 returns-in_err-execution c = let l = c.loop-v in
