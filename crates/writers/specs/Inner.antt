@@ -1,2 +1,3 @@
 pub mod Trial
 pub mod Parts
+pub mod Puts

@@ -2,17 +2,18 @@
 #![tactic(auto)]
 
 ghost use Rattle.std.specs.Prelude.{◌≡◌, ℕ, ◌+◌, ◌≤◌, Ok, length, take};
-ghost use Rattle.std.proofs.lemmas.List.Edits.{sets};
 ghost use Rattle.plain.specs.At.{at};
 ghost use Rattle.refusals.specs.Numbers.{number_of};
 ghost use Rattle.refusals.specs.Answer.{answered};
 ghost use Rattle.tables.specs.Limits.{edition_max, id_max, period_max, count_max, execution_max};
 ghost use Rattle.sets.specs.Members.{members};
-ghost use Rattle.sets.specs.Size.{size};
+ghost use Rattle.numbers.specs.Shortest.{shortest};
+ghost use Rattle.numbers.specs.Inner.Word.{word_more};
 ghost use Rattle.writers.specs.Record.{numbers_written, node_numbers};
 ghost use Rattle.writers.specs.Writing.{table_of, unless, before_writing, outcome_of, writing, write_call};
 ghost use Rattle.writers.specs.Inner.Trial.{place_max, node_max, tried, parents_tried, node_tried, nodes_tried, head_tried, record_tried};
 ghost use Rattle.writers.specs.Inner.Parts.{head_numbers, nodes_to};
+ghost use Rattle.writers.specs.Inner.Puts.{Room, Puts};
 
 use refusals::{Answer, Reason, Refusal};
 use tables::TaskTable;
@@ -69,32 +70,45 @@ fn unless(broken: bool, reason: Reason, place: usize) -> Result<(), Refusal>
     Ok(())
 }
 
-// The members of a set, a byte each, and the place after them.
-fn write_members(bytes: &mut [u8], from: usize, set: u64) -> usize
-    requires { from + size set ≤ length bytes.old }
-    ensures value { result ≡ from + size set }
-    ensures bytes_after { bytes.new ≡ sets bytes.old from (members 64 set) }
-{
-    let mut left = set;
-    let mut at = from;
-    // A `while`: only the set tells how many members are to come, so a `for` over the places would need its size first, which is no plainer.
-    while left != 0 {
-        bytes[at] = left.trailing_zeros() as u8;
-        left &= left - 1;
-        at += 1;
-    }
-    at
+// Lent bytes while a record is written into them, and the place of its next byte.
+#[derive(Drop)]
+struct Writer<'a> {
+    bytes: &'a mut [u8],
+    at: usize,
 }
 
-// A node's numbers, and the place after them.
-fn write_node(bytes: &mut [u8], from: usize, execution: u64, set: u64) -> usize
-    requires { (execution ≤ execution_max) × (from + length (numbers_written (node_numbers execution set)) ≤ length bytes.old) }
-    ensures value { result ≡ from + length (numbers_written (node_numbers execution set)) }
-    ensures bytes_after { bytes.new ≡ sets bytes.old from (numbers_written (node_numbers execution set)) }
-{
-    let count_at = numbers::write_number(bytes, from, execution);
-    let parents_at = numbers::write_number(bytes, count_at, sets::size_of(set));
-    write_members(bytes, parents_at, set)
+impl Writer<'_> {
+    // A number.
+    fn write_number(&mut self, value: u64)
+        requires { Room self.old (shortest word_more value) }
+        ensures { Puts self.old self.new (shortest word_more value) }
+    {
+        self.at = numbers::write_number(self.bytes, self.at, value);
+    }
+
+    // The members of a set, a byte each.
+    fn write_members(&mut self, set: u64)
+        requires { Room self.old (members 64 set) }
+        ensures { Puts self.old self.new (members 64 set) }
+    {
+        let mut left = set;
+        // A `while`: only the set tells how many members are to come, so a `for` over the places would need its size first, which is no plainer.
+        while left != 0 {
+            self.bytes[self.at] = left.trailing_zeros() as u8;
+            left &= left - 1;
+            self.at += 1;
+        }
+    }
+
+    // A node's numbers.
+    fn write_node(&mut self, execution: u64, set: u64)
+        requires { (execution ≤ execution_max) × Room self.old (numbers_written (node_numbers execution set)) }
+        ensures { Puts self.old self.new (numbers_written (node_numbers execution set)) }
+    {
+        self.write_number(execution);
+        self.write_number(sets::size_of(set));
+        self.write_members(set);
+    }
 }
 
 // What a record is written of: the numbers of its head, and a list of executions and one of parent sets, a node at each index.
@@ -148,28 +162,26 @@ impl Task<'_> {
         self.try_nodes(nodes_at, tables::least_execution(self.edition))
     }
 
-    // The numbers before the nodes, and the place after them.
-    fn write_head(self, bytes: &mut [u8]) -> usize
+    // The numbers before the nodes.
+    fn write_head(self, out: &mut Writer)
         requires edition_le_edition_max { (self.edition ≤ edition_max) × (self.id ≤ id_max) × (self.period ≤ period_max) × (length self.executions.now ≤ count_max) }
-        requires n_in_bounds { length (numbers_written (head_numbers self.edition self.id self.period (length self.executions.now))) ≤ length bytes.old }
-        ensures value { result ≡ length (numbers_written (head_numbers self.entry.edition self.entry.id self.entry.period (length self.entry.executions.now))) }
-        ensures bytes_after { bytes.new ≡ sets bytes.old 0 (numbers_written (head_numbers self.entry.edition self.entry.id self.entry.period (length self.entry.executions.now))) }
+        requires n_in_bounds { Room out.old (numbers_written (head_numbers self.edition self.id self.period (length self.executions.now))) }
+        ensures { Puts out.old out.new (numbers_written (head_numbers self.entry.edition self.entry.id self.entry.period (length self.entry.executions.now))) }
     {
-        let id_at = numbers::write_number(bytes, 0, self.edition);
-        let period_at = numbers::write_number(bytes, id_at, self.id);
-        let count_at = numbers::write_number(bytes, period_at, self.period);
-        numbers::write_number(bytes, count_at, self.executions.len() as u64)
+        out.write_number(self.edition);
+        out.write_number(self.id);
+        out.write_number(self.period);
+        out.write_number(self.executions.len() as u64);
     }
 
     // The numbers of all nodes.
-    fn write_nodes(self, bytes: &mut [u8], from: usize)
+    fn write_nodes(self, out: &mut Writer)
         requires executions_len { (v : ℕ) → at self.executions.now v ≤ execution_max }
-        requires executions_in_bounds { from + length (numbers_written (nodes_to self.executions.now self.parents.now (length self.executions.now))) ≤ length bytes.old }
-        ensures { bytes.new ≡ sets bytes.old from (numbers_written (nodes_to self.entry.executions.now self.entry.parents.now (length self.entry.executions.now))) }
+        requires executions_in_bounds { Room out.old (numbers_written (nodes_to self.executions.now self.parents.now (length self.executions.now))) }
+        ensures { Puts out.old out.new (numbers_written (nodes_to self.entry.executions.now self.entry.parents.now (length self.entry.executions.now))) }
     {
-        let mut at = from;
         for (execution, set) in self.executions.iter().zip(self.parents) {
-            at = write_node(bytes, at, *execution, *set);
+            out.write_node(*execution, *set);
         }
     }
 
@@ -182,8 +194,9 @@ impl Task<'_> {
         let n = self.executions.len();
         unless(tables::all_zero(self.executions, n), Reason::NoneRuns, 0)?;
         unless(bytes.len() < size, Reason::WrongLength, bytes.len())?;
-        let nodes_at = self.write_head(bytes);
-        self.write_nodes(bytes, nodes_at);
+        let mut out = Writer { bytes, at: 0 };
+        self.write_head(&mut out);
+        self.write_nodes(&mut out);
         Ok(size as u64)
     }
 }

@@ -1,13 +1,13 @@
 -- `Task::write` meets its contract: its rules are those of `before_writing`, and where none refuses there is room for the head and the nodes, which make up the
 -- record.
 use Prim.Native.Nat.{ℕ, ◌+◌, ◌≤◌}
-use mathlib.Core.Path.{◌≡◌, refl, sym, ap, ap₂, ◌∙◌}
+use mathlib.Core.Path.{◌≡◌, sym, ap, ap₂, ◌∙◌}
 use mathlib.Core.Bool.{Bool}
 use mathlib.Core.List.{List}
-use native.Mathlib.Nat.{zero-add}
 use native.Mathlib.Omega.{arith}
 use lib.ListN.{length}
 use lib.Dec.{ltb}
+use borrow.Author.Rules.{rules}
 use Rattle.std.specs.Prelude.{Result, Ok, Err, ⊤}
 use Rattle.refusals.specs.declared.Refusal.{Refusal}
 use Rattle.refusals.specs.Numbers.{none_runs, wrong_length}
@@ -26,7 +26,7 @@ use Rattle.writers.specs.Inner.Parts.{head_numbers, nodes_to}
 use Rattle.writers.proofs.Table.{trial-head, trial-executions, trial-place}
 use Rattle.writers.proofs.Calls.{passes, range-refused, rules-tried, writing-refused, writing-put, parts-length, record-front}
 use Rattle.writers.proofs.Task.write.Goals as goal
-use Rattle.writers.proofs.Task.write.Goals.{After-write_head-nodes_at, In_ok-size, In_ok-unless, In_ok-unless-2}
+use Rattle.writers.proofs.Task.write.Goals.{After-write_head, In_ok-size, In_ok-unless, In_ok-unless-2}
 
 -- what is told and what is left, where a rule refuses
 record Left (t : TaskTable) (before after : List ℕ) (o : Result ℕ Refusal) : Type 0 where
@@ -80,35 +80,39 @@ module _ (c : In_ok-unless-2) where
   unfolding table
   room = let a = c.args.self in rw (← (parts-length a.executions.now a.parents.now a.edition a.id a.period)) (passes _ _ accepted-all).room
 
-pub write_head-nodes_at-requires : goal.write_head-nodes_at-requires
-write_head-nodes_at-requires c = let w = (goal.at.write_head-nodes_at-requires c).In_ok-unless-2 in let h = trial-head _ _ _ _ _ _ (tried-through w) in
+pub write_head-requires : goal.write_head-requires
+write_head-requires c = let w = (goal.at.write_head-requires c).In_ok-unless-2 in let h = trial-head _ _ _ _ _ _ (tried-through w) in
     record { edition_le_edition_max = (h.edition.1, h.id.1, h.period.1, h.count.1); n_in_bounds = omega (arith, room w) }
 
 -- the head is written
-headed : (c : After-write_head-nodes_at) → (let a = c.args.self in
-    Wrote record_more c.args.bytes.now 0 (head_numbers a.edition a.id a.period (length a.executions.now)) c.write_head-nodes_at.new.bytes c.write_head-nodes_at.result)
-headed c = record { bytes = c.write_head-nodes_at.ensures.bytes_after; place = c.write_head-nodes_at.ensures.value ∙ sym (zero-add _) }
+headed : (c : After-write_head) → (let a = c.args.self in
+    Wrote record_more c.args.bytes.now 0 (head_numbers a.edition a.id a.period (length a.executions.now)) c.write_head.new.out.bytes.now c.write_head.new.out.at)
+headed c = record { bytes = c.write_head.ensures.bytes_after; place = c.write_head.ensures.place }
 
 pub write_nodes-requires : goal.write_nodes-requires
 write_nodes-requires c = let w = (goal.at.write_nodes-requires c).In_ok-unless-2 in
     record {
       executions_len = trial-executions _ _ _ _ _ _ (tried-through w);
-      executions_in_bounds = omega (arith, room w, wrote-length (headed (goal.at.write_nodes-requires c).After-write_head-nodes_at), c.write_head-nodes_at.ensures.value);
+      executions_in_bounds = omega (arith, room w, wrote-length (headed (goal.at.write_nodes-requires c).After-write_head), c.write_head.ensures.place);
     }
 
-pub returns : goal.returns
+pub returns-clause-outcome : goal.returns-clause-outcome
 unfolding table
-returns c =
-    let w = (goal.at.returns c).In_ok-unless-2 in
+returns-clause-outcome c = sym (accepted-all (goal.at.returns-clause-outcome c).In_ok-unless-2)
+
+-- what is told and what is left, where none refuses
+put : {k l : ℕ} {a b c : List ℕ} → k ≡ l → a ≡ b → b ≡ c → ◌≡◌ {A = After (List ℕ)} (record { answer = accepted k; lent = a }) (record { answer = accepted l; lent = c })
+put e p q = λ i. record { answer = accepted (e i); lent = (p ∙ q) i }
+
+pub returns-clause-bytes_after : goal.returns-clause-bytes_after
+unfolding table
+returns-clause-bytes_after c =
+    let w = (goal.at.returns-clause-bytes_after c).In_ok-unless-2 in
     let a = c.args.self in
     let X = a.executions.now in
     let P = a.parents.now in
-    let all = wrote-more (headed (goal.at.returns c).After-write_head-nodes_at) (record { bytes = c.write_nodes.ensures; place = refl }) in
-    record {
-      outcome = sym (accepted-all w);
-      bytes_after = left (trial-place X P a.edition a.id a.period _ (tried-through w)) (record-front X P c.args.bytes.now a.edition a.id a.period _ _ all (passes _ _ (accepted-all w)).room)
-          ∙ sym (writing-put _ _ (accepted-all w));
-    }
-  where
-    left : {k l : ℕ} {b c : List ℕ} → k ≡ l → b ≡ c → ◌≡◌ {A = After (List ℕ)} (record { answer = accepted k; lent = b }) (record { answer = accepted l; lent = c })
-    left e q = λ i. record { answer = accepted (e i); lent = q i }
+    let all = wrote-more (headed (goal.at.returns-clause-bytes_after c).After-write_head) (record { bytes = c.write_nodes.ensures.bytes_after; place = c.write_nodes.ensures.place }) in
+    let same = c.write_nodes.ensures.same_reference ∙ c.write_head.ensures.same_reference in
+    put {b = c.write_nodes.new.out.bytes.now} (trial-place X P a.edition a.id a.period _ (tried-through w)) (search rules)
+    (record-front X P c.args.bytes.now a.edition a.id a.period _ _ all (passes _ _ (accepted-all w)).room)
+    ∙ sym (writing-put _ _ (accepted-all w))
