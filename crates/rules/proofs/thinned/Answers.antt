@@ -19,4 +19,6 @@ all-requires-clause-callable c =
     (λ x lo hi. let piece : threads_at c.args.plan.now x * length_at c.args.plan.now x ≤ c.args.work = piece-low asked x (rw c.segments.ensures at hi) in search rules)
 
 pub returns : goal.returns
-returns c = all-below _ _ c.all.ensures.ran (rw c.segments.ensures) (λ x b q k. rw (← regrouped) (search (rules, tests)))
+returns c =
+    let w = c.args.plan.now in
+    all-below _ _ c.all.ensures.ran (rw c.segments.ensures) (λ x b q k. rw (← (regrouped (threads_at w x * length_at w x) (at w 0) c.args.period)) (search (rules, tests)))
