@@ -5,7 +5,7 @@ use mathlib.Core.List.{List}
 use Prim.Native.Nat.{ℕ, ◌+◌, ◌*◌, ◌≤◌, ◌<◌}
 use native.Mathlib.Omega.{arith}
 use borrow.Author.Tests.{lt-ltb, le-ltb}
-use lib.ListN.{length, drop, length-drop}
+use lib.ListN.{length, drop}
 use Rattle.tables.specs.declared.TaskTable.{TaskTable}
 use Rattle.segments.proofs.Segments.{segments-le}
 use Rattle.plans.specs.Diagram.{finish}
@@ -31,10 +31,6 @@ prints {text} {p = p} {q = q} start h w same =
 
 pub leaves : (text : List ℕ) {out : List ℕ} → length out < sheet_max → Prints text out 0 out
 leaves text {out} h = (rw (lt-ltb (length out) sheet_max h), omega arith)
-
--- room for n triples in the words from a place on
-pub part_room : (w : List ℕ) (from n : ℕ) → from + 3 * n ≤ length w → 3 * n ≤ length (drop from w)
-part_room w from n h = rw length-drop (omega arith)
 
 module _ {t : TaskTable} (ok : Planned t) (words : List ℕ) (room : words_max ≤ length words) where
   pub printable : {w : List ℕ} → w ≡ written t words → Printable w
