@@ -18,7 +18,8 @@ ghost use Rattle.writers.specs.Inner.Puts.{Room, Puts};
 use refusals::{Answer, Reason, Refusal};
 use tables::TaskTable;
 
-// The number at a place, tried in its range; as all that is tried here, it tells the place after it.
+// The number at a place, tried in its range; as all that is tried here, it tells the place after it. Bounds on a place and on the node count stay clauses here and
+// below: they are known only once the count was tried, so a type of their own would be made in one place alone, which is no plainer.
 fn try_number(
     place: usize,
     value: u64,
@@ -112,7 +113,7 @@ impl Writer<'_> {
 }
 
 // What a record is written of: the numbers of its head, and a list of executions and one of parent sets, a node at each index.
-#[derive(Clone, Copy, Debug)]
+#[derive(Clone, Copy)]
 struct Task<'a> {
     edition: u64,
     id: u64,
