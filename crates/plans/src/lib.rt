@@ -1,4 +1,5 @@
-// A plan's words from a table, and from a record.
+// A plan's words from a table, and from a record. The words are C's, longer than a plan (the C interface), and those of them that count segments and
+// nodes are written last: so s and n stand beside them.
 #![tactic(auto)]
 
 ghost use Rattle.std.specs.Prelude.{◌≡◌, ◌++◌, ◌+◌, ◌*◌, ◌≤◌, ltb, length, drop, IfOk};

@@ -16,13 +16,13 @@ use refusals::{Answer, Reason, Refusal};
 use tables::TaskTable;
 
 // The first value that nine groups of seven bits do not hold.
-const VALUE_LIMIT: u64 = 9223372036854775808;
+const VALUE_LIMIT: u64 = 1 << 63;
 
 // Whether nine groups hold every value.
 fn are_small(values: &[u64]) -> bool
     ensures { result ≡ are_small values.now }
 {
-    values.iter().all(|value| *value < VALUE_LIMIT)
+    values.iter().all(|&value| value < VALUE_LIMIT)
 }
 
 // How many bytes the values take, one after the other.
@@ -30,7 +30,7 @@ fn size_of(values: &[u64]) -> usize
     requires { Small values.now × (length values.now ≤ words_max) }
     ensures { result ≡ length (all_shortest plan_more values.now) }
 {
-    values.iter().map(|value| numbers::length_of(*value)).sum()
+    values.iter().map(|&value| numbers::length_of(value)).sum()
 }
 
 // Writes the values from a place on, and tells the place after them.
@@ -40,8 +40,8 @@ fn write_values(values: &[u64], bytes: &mut [u8], from: usize) -> usize
     ensures bytes_after { bytes.new ≡ sets bytes.old from (all_shortest plan_more values.now) }
 {
     let mut at = from;
-    for value in values {
-        at = numbers::write_number(bytes, at, *value);
+    for &value in values {
+        at = numbers::write_number(bytes, at, value);
     }
     at
 }
