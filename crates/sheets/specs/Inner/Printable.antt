@@ -5,7 +5,7 @@ use Rattle.tables.specs.Limits.{count_max, density_max}
 use Rattle.texts.specs.declared.Page.{Page}
 use Rattle.sheets.specs.Sheet.{density_at, sheet_max}
 
--- a page with room for every sheet behind its end
+-- a page with room for every sheet behind its end; no invariant of a page, since what is written uses the room up
 abbrev pub SheetRoom : Page → Type 0
 SheetRoom page = page.end + sheet_max ≤ length page.out.now
 
