@@ -1,16 +1,13 @@
 -- The words of a task up to its predecessors: each that is taken leads to the one that is due after it, so over all three the reading comes to the predecessors.
 use Prim.Native.Nat.{ℕ, ◌≤◌, ◌<◌}
-use mathlib.Core.Path.{◌≡◌, refl, ◌∙◌}
+use mathlib.Core.Path.{◌≡◌, ◌∙◌}
 use mathlib.Core.List.{List, []}
 use native.Mathlib.Omega.{arith}
-use lib.ListN.{length}
 use Rattle.std.specs.Prelude.{false, Ok, Err}
 use Rattle.refusals.specs.declared.Refusal.{Refusal}
 use Rattle.refusals.specs.Numbers.{bad_layout, bad_execution, bad_parent}
 use Rattle.tables.specs.declared.TaskTable.{TaskTable}
 use Rattle.tables.specs.Limits.{count_max, execution_max}
-use Rattle.tables.specs.Table.{empty_table}
-use Rattle.records.specs.Reading.{headed}
 use Rattle.graphwords.specs.declared.Number.{Number}
 use Rattle.graphs.specs.Expected.{predecessor_from}
 use Rattle.graphs.specs.Expected.Due.{number, time, many}
@@ -28,9 +25,6 @@ module _ (text : List ℕ) (i n from : ℕ) (below : i < n) (few : n ≤ count_m
     numbered : (t : TaskTable) → Passed text (number t i) from p
     numbered t = passed text (number t i) (omega arith) (omega arith) from p is
 
-    pub number-inside : p.end ≤ length text
-    number-inside = (numbered empty_table).inside
-
     -- its time
     pub time-out : (r : Refusal) → Err r ≡ number_taken bad_execution 0 execution_max text p.end → (t : TaskTable) → reading_at text (word (number t i)) from ≡ no_graph false r
     time-out r at t = (numbered t).goes ∙ step-out text (time t i) (omega arith) (omega arith) p.end r at
@@ -38,9 +32,6 @@ module _ (text : List ℕ) (i n from : ℕ) (below : i < n) (few : n ≤ count_m
     module _ {e : Number} (at : Ok e ≡ number_taken bad_execution 0 execution_max text p.end) where
       timed : (t : TaskTable) → Passed text (time t i) p.end e
       timed t = passed text (time t i) (omega arith) (omega arith) p.end e at
-
-      pub time-inside : e.end ≤ length text
-      time-inside = (timed empty_table).inside
 
       -- the number of its predecessors
       module _ (t : TaskTable) (same : t.count ≡ n) where
@@ -53,6 +44,3 @@ module _ (text : List ℕ) (i n from : ℕ) (below : i < n) (few : n ≤ count_m
         pub many-on : {k : Number} → Ok k ≡ number_taken bad_parent 0 n text e.end →
             reading_at text (word (number t i)) from ≡ reading_at text (predecessor_from t i e.value k.value []) k.end
         many-on is = (numbered t).goes ∙ (timed t).goes ∙ (counted is).goes
-
-      pub many-inside : {k : Number} → Ok k ≡ number_taken bad_parent 0 n text e.end → k.end ≤ length text
-      many-inside is = (counted (headed 0 0 0 n) refl is).inside

@@ -4,14 +4,12 @@ use mathlib.Core.Path.{◌≡◌, refl, sym, ap, ◌∙◌}
 use mathlib.Core.Bool.{true, false}
 use mathlib.Core.List.{List, [], ◌∷◌, ◌++◌}
 use native.Mathlib.Omega.{arith}
-use lib.ListN.{length}
 use Rattle.std.specs.Prelude.{Result, Ok, Err}
 use Rattle.refusals.specs.Numbers.{bad_parent}
 use Rattle.refusals.specs.declared.Refusal.{Refusal}
 use Rattle.refusals.specs.Refusal.{refusal}
 use Rattle.tables.specs.declared.TaskTable.{TaskTable}
 use Rattle.tables.specs.Limits.{count_max}
-use Rattle.records.specs.Nodes.{with_node}
 use Rattle.records.specs.Reading.{headed}
 use Rattle.sets.specs.Member.{is_member}
 use Rattle.sets.specs.Inner.Put.{with_member}
@@ -19,16 +17,11 @@ use Rattle.listings.specs.Lists.{is_listed, list_set}
 use Rattle.listings.specs.declared.Listing.{Listing}
 use Rattle.listings.proofs.Lists.{member-listed, set-behind, met-none}
 use Rattle.graphwords.specs.declared.Number.{Number}
-use Rattle.graphs.specs.Expected.{Next, task_from, predecessor_from}
+use Rattle.graphs.specs.Expected.{predecessor_from}
 use Rattle.graphs.specs.Expected.Due.{predecessor}
 use Rattle.graphs.specs.Graph.{no_graph}
 use Rattle.graphs.specs.Inner.Taken.{number_taken, reading_at}
 use Rattle.graphs.proofs.Steps.{step-out, Passed, passed}
-
--- none is left
-pub next-none : (t : TaskTable) (i time left : ℕ) (given : List ℕ) → left ≤ 0 → predecessor_from t i time left given ≡ task_from (with_node t i time (list_set given)) (i + 1)
-next-none t i time zero given h = refl
-next-none t i time (suc left) given h = absurd (omega arith)
 
 module _ (text : List ℕ) (n : ℕ) (some : 1 ≤ n) (few : n ≤ count_max) (from : ℕ) where
   abbrev Is : Result Number Refusal → Type 0
@@ -56,20 +49,19 @@ module _ (text : List ℕ) (n : ℕ) (some : 1 ≤ n) (few : n ≤ count_max) (f
     next-on zero given h p is l = absurd (omega arith)
     next-on (suc left) given h p is l = let k : suc left - 1 ≡ left = omega arith in (gone left given p is).goes ∙ rw (l, k)
 
-  -- it is below n, inside the text
-  pub next-inside : (p : Number) → Is (Ok p) → (p.value < n) × (p.end ≤ length text)
-  next-inside p is = let q = gone (headed 0 0 0 n) 0 0 refl 0 [] p is in (omega (arith, q.most), q.inside)
+  -- it is below n
+  pub next-below : (p : Number) → Is (Ok p) → p.value < n
+  next-below p is = omega (arith, (gone (headed 0 0 0 n) 0 0 refl 0 [] p is).most)
 
 -- so many of them were taken: those that were given, as a set, and the reading has come to the others
 pub record Given (text : List ℕ) (from n count passed set at : ℕ) : Type 0 where
   pub given : List ℕ
   pub is : set ≡ list_set given
-  pub inside : at ≤ length text
   pub goes : (t : TaskTable) (i time : ℕ) → t.count ≡ n → reading_at text (predecessor_from t i time count []) from ≡ reading_at text (predecessor_from t i time (count - passed) given) at
 
-pub given-none : (text : List ℕ) (from n count : ℕ) → from ≤ length text → Given text from n count 0 0 from
-given-none text from n count h =
-    record { given = []; is = ap (λ (l : Listing). l.set) (sym (met-none 0)); inside = h; goes = λ t i time same. let e : count - 0 ≡ count = omega arith in rw e }
+pub given-none : (text : List ℕ) (from n count : ℕ) → Given text from n count 0 0 from
+given-none text from n count =
+    record { given = []; is = ap (λ (l : Listing). l.set) (sym (met-none 0)); goes = λ t i time same. let e : count - 0 ≡ count = omega arith in rw e }
 
 module _ {text : List ℕ} {from n count passed set at : ℕ} (g : Given text from n count passed set at) (some : 1 ≤ n) (few : n ≤ count_max) where
   -- one more is refused
@@ -80,7 +72,7 @@ module _ {text : List ℕ} {from n count passed set at : ℕ} (g : Given text fr
   -- it was taken, and was given before, or was not
   module _ {p : Number} (is : Ok p ≡ number_taken bad_parent 0 (n - 1) text at) where
     pub given-small : p.value < count_max
-    given-small = omega (arith, (next-inside text n some few at p is).0)
+    given-small = omega (arith, next-below text n some few at p is)
 
     was-given : is_listed g.given p.value ≡ is_member p.value set
     was-given = sym (member-listed g.given p.value given-small) ∙ ap (is_member p.value) (sym g.is)
@@ -93,14 +85,6 @@ module _ {text : List ℕ} {from n count passed set at : ℕ} (g : Given text fr
     given-more h m = record {
       given = g.given ++ p.value ∷ [];
       is = ap (with_member p.value) g.is ∙ sym (set-behind g.given p.value given-small);
-      inside = (next-inside text n some few at p is).1;
       goes = λ t i time same. let e : count - (passed + 1) ≡ count - passed - 1 = omega arith in
           g.goes t i time same ∙ next-on text n some few at t i time same (count - passed) g.given (omega arith) p is (was-given ∙ m) ∙ rw e;
     }
-
-  -- all of them
-  pub given-all : count ≤ passed → (t : TaskTable) (i time : ℕ) → t.count ≡ n →
-      reading_at text (predecessor_from t i time count []) from ≡ reading_at text (task_from (with_node t i time set) (i + 1)) at
-  given-all h t i time same =
-      g.goes t i time same ∙ ap (λ (next : Next). reading_at text next at)
-      (next-none t i time (count - passed) g.given (omega arith) ∙ ap (λ (w : ℕ). task_from (with_node t i time w) (i + 1)) (sym g.is))

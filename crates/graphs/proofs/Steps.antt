@@ -6,7 +6,7 @@ use mathlib.Core.Bool.{Bool, true, false, not}
 use mathlib.Core.List.{List, [], ◌∷◌}
 use native.Mathlib.Omega.{arith}
 use lib.ListN.{length}
-use borrow.Author.Tests.{lt-ltb, le-ltb}
+use borrow.Author.Tests.{lt-ltb}
 use Rattle.std.specs.Prelude.{Result, Ok, Err}
 use Rattle.std.specs.Result.{IsErrAnd}
 use Rattle.plain.specs.Pick.{pick}
@@ -25,7 +25,7 @@ use Rattle.graphwords.proofs.Capped.{capped-below, capped-high, capped-low}
 use Rattle.graphs.specs.declared.Graph.{Graph}
 use Rattle.graphs.specs.Expected.{Due, range, between, repeats, task_from, after}
 use Rattle.graphs.specs.Expected.Due.{number}
-use Rattle.graphs.specs.Expected.Next.{word, done}
+use Rattle.graphs.specs.Expected.Next.{word}
 use Rattle.graphs.specs.Graph.{no_graph, reading}
 use Rattle.graphs.specs.Inner.Taken.{found_taken, number_taken, then_taken, reading_at}
 use Rattle.graphs.proofs.Cases.{Between, tried, between_in, between-out}
@@ -57,19 +57,15 @@ found_inside text from n e = by (first_word text from) e
     by none e = found_none n e
     by (one place h) e = rw (found_end _ _ n e) (past-inside text place h)
 
--- task i is expected where it is one of the tasks, else nothing more
+-- task i is expected where it is one of the tasks
 pub task-left : (t : TaskTable) (i : ℕ) → i < t.count → task_from t i ≡ word (number t i)
 task-left t i h = rw (lt-ltb i t.count h)
-
-pub none_left : (t : TaskTable) (i : ℕ) → t.count ≤ i → task_from t i ≡ done t
-none_left t i h = rw (le-ltb i t.count h)
 
 module _ (text : List ℕ) (due : Due) where
   -- the first of the words was taken: its number, and what the reading comes to past it
   pub record Taking (words : List Word) (n : Number) : Type 0 where
     pub least : (range due).low ≤ n.value
     pub most : n.value ≤ (range due).high
-    pub inside : n.end ≤ length text
     pub goes : reading (length text) (word due) words ≡
         pick (not (repeats due n.value)) (reading_at text (after due n.value) n.end) (no_graph false (refusal (range due).broken n.place))
 
@@ -92,7 +88,7 @@ module _ (text : List ℕ) (due : Due) where
     counted : (v : ℕ) → between (range due).low (capped v) (range due).high ≡ between (range due).low v (range due).high
     counted v = rw (capped-low v (range due).low low, capped-high v (range due).high high)
 
-    module _ (w : Word) (past : past_word w ≤ length text) where
+    module _ (w : Word) where
       abbrev words : List Word
       words = w ∷ words_at text (past_word w)
 
@@ -103,7 +99,7 @@ module _ (text : List ℕ) (due : Due) where
           let e = between_in (range due).low v (range due).high l h in
           let same : capped v ≡ v = capped-below v (omega (arith, h, high)) in
           let read : taken words ≡ Ok (record { value = v; place = w.place; end = past_word w }) = rw (found_in, d, same, e) in
-          subst (λ (t : Result Number Refusal). Step t words) (sym read) (on record { least = l; most = h; inside = past; goes = rw (reading, d, e) })
+          subst (λ (t : Result Number Refusal). Step t words) (sym read) (on record { least = l; most = h; goes = rw (reading, d, e) })
       in-range d (outside o) =
           let v = decimal_of w.letters in
           let e = between-out (range due).low v (range due).high o in
@@ -120,7 +116,7 @@ module _ (text : List ℕ) (due : Due) where
     step : {words : List Word} → First text words → Step (taken words) words
     unfolding found_in reading
     step none = out _ refl
-    step (one place h) = any (word_here text place) (past-inside text place h) _ refl
+    step (one place h) = any (word_here text place) _ refl
 
     -- a step that was refused, and one that was taken
     module _ (from : ℕ) where

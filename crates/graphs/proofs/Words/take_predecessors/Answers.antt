@@ -4,12 +4,12 @@ use Rattle.refusals.specs.Numbers.{bad_parent}
 use Rattle.graphs.specs.Graph.{no_graph}
 use Rattle.graphs.specs.Inner.Taken.{number_taken}
 use Rattle.graphs.proofs.Steps.{taken-out}
-use Rattle.graphs.proofs.Predecessors.{given-none, given-out, given-small, given-again, given-more, given-all}
+use Rattle.graphs.proofs.Predecessors.{given-none, given-out, given-again, given-more}
 use Rattle.graphs.proofs.Words.take_predecessors.Goals as goal
 use Rattle.graphs.proofs.Words.take_predecessors.Goals.{In_ok-number}
 
 pub loop-init : goal.loop-init
-loop-init c = (given-none _ _ _ _ c.args.self.now.inside, refl)
+loop-init c = (given-none _ _ _ _, refl)
 
 pub returns-in_err-number-clause-leads : goal.returns-in_err-number-clause-leads
 returns-in_err-number-clause-leads c t i time same = taken-out _ _ _ c.from_residual.ensures.1
@@ -19,9 +19,6 @@ returns-in_err-number-clause-leads c t i time same = taken-out _ _ _ c.from_resi
 is : (c : In_ok-number) → (let a = c.args in
     Ok c.in_ok-number.number ≡ number_taken bad_parent 0 (a.n - 1) a.self.now.text.now c.loop.self.at)
 is c = rw (sym c.loop.invariant.1) c.in_ok-number.ensures.taken
-
-pub is_member-requires : goal.is_member-requires
-is_member-requires c = given-small c.loop.invariant.0 c.requires.0 c.requires.1 (is (goal.at.is_member-requires c).In_ok-number)
 
 pub returns-then-is_member-clause-leads : goal.returns-then-is_member-clause-leads
 returns-then-is_member-clause-leads c t i time same =
@@ -34,6 +31,3 @@ loop-preserved c = (
       (given-more c.loop.invariant.0 c.requires.0 c.requires.1 (is (goal.at.loop-preserved c).In_ok-number) c.loop-test.true (sym c.is_member.ensures ∙ c.if-is_member.false)),
   c.in_ok-number.ensures.text ∙ c.loop.invariant.1,
 )
-
-pub returns-clause-leads : goal.returns-clause-leads
-returns-clause-leads c t i time same = given-all c.loop.invariant.0 c.requires.0 c.requires.1 c.loop-test.false t i time same

