@@ -18,7 +18,7 @@ use Rattle.sets.specs.Size.{size}
 use Rattle.sets.specs.Rule.{set_of}
 use Rattle.sets.proofs.Bits.{bit-zero, not-mem}
 use Rattle.sets.proofs.Sizes.{size-full}
-use Rattle.sets.proofs.Walks.{Walk}
+use Rattle.sets.specs.Inner.Walk.{Walk}
 use Rattle.sets.proofs.Words.{none-missing}
 use Rattle.ways.proofs.Reaches.{parent-lt}
 use Rattle.ways.proofs.Settling.{settle-none}

@@ -17,7 +17,7 @@ use Rattle.sets.specs.Inner.Put.{with_member}
 use Rattle.sets.specs.Rule.{set_of}
 use Rattle.sets.proofs.Bits.{bit-zero, bit-out-same, bit-out-other, mem-lt, mem-or-l, mem-or-r, mem-or-cases, not-mem, put_same, put_other, with-or}
 use Rattle.sets.proofs.Rule.{bit-set, set-lt}
-use Rattle.sets.proofs.Walks.{Walk}
+use Rattle.sets.specs.Inner.Walk.{Walk}
 use Rattle.ways.specs.Inner.Tidy.{Tidy}
 use Rattle.ways.proofs.Reaches.{child-lt}
 use Rattle.diagrams.specs.Inner.Sweep.{Waits, Woken}

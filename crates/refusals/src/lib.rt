@@ -4,7 +4,6 @@
 ghost use Rattle.std.specs.Prelude.{◌≡◌};
 ghost use Rattle.refusals.specs.Numbers.{number_of};
 ghost use Rattle.refusals.specs.Refusal.{refusal, looped, refusal_of};
-ghost use Rattle.refusals.specs.InOrder.{in_order};
 ghost use Rattle.refusals.specs.Answer.{accepted, refused, answered};
 
 // Why something is refused: document 01's refusal numbers and those that requests added, each by its name.
@@ -142,15 +141,4 @@ impl From<Result<u64, Refusal>> for Answer {
             Err(refusal) => Answer::refused(refusal),
         }
     }
-}
-
-// The first refusal of three rules' outcomes.
-pub fn in_order(
-    first: Result<(), Refusal>,
-    second: Result<(), Refusal>,
-    third: Result<(), Refusal>,
-) -> Result<(), Refusal>
-    ensures { result ≡ in_order first second third }
-{
-    first.and(second).and(third)
 }

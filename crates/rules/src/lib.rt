@@ -11,6 +11,7 @@ ghost use Rattle.shares.specs.Inner.Asked.{numerator_max};
 ghost use Rattle.rules.specs.Rules.{over_fits, same_cut, shared_out, summed, followed, halved, thinned, rounded};
 ghost use Rattle.rules.specs.Inner.Own.{windowed, held_by, PlanIn, SharedIn};
 
+use sets::Members;
 use tables::TaskTable;
 
 // The greatest Q of specs/: twice the work of 64 nodes that all run as long as they may.
@@ -163,18 +164,15 @@ pub fn summed(own: &[u64], plan: &[u64]) -> bool
     (0..own.nodes()).all(|v| plan.node(v).deadline == share_of(own, plan, v))
 }
 
-// The greatest offset plus deadline of a node's parents, 0 without parents. The parents are met by trailing zeros: no `for`, the library has none over a
-// word's bits.
+// The greatest offset plus deadline of a node's parents, 0 without parents.
 fn parents_end(plan: Plan, set: u64) -> u64
     requires { ((k : ℕ) → at plan.words.now k < 2 ^ 63) × (set < 2 ^ at plan.words.now 2) }
     ensures { result ≡ greatest (at plan.entry.words.now 2) set (λ p. offset_at plan.entry.words.now p + deadline_at plan.entry.words.now p) }
 {
     let mut latest: u64 = 0;
-    let mut left = set;
-    while left != 0 {
-        let parent = plan.node(left.trailing_zeros() as usize);
+    for p in Members::of(set) {
+        let parent = plan.node(p);
         latest = latest.max(parent.offset + parent.deadline);
-        left &= left - 1;
     }
     latest
 }

@@ -9,6 +9,7 @@ use native.Mathlib.Omega.{arith}
 use lib.Bits.{bit_and, and_le_r}
 use lib.Count.{count_trailing_zeros, under}
 use Rattle.sets.specs.Member.{bit, Member}
+use Rattle.sets.specs.Inner.Walk.{Walk}
 use Rattle.sets.specs.Members.{only, members}
 use Rattle.sets.proofs.Bits.{bit-zero, bit_le, bit-out-same, bit-out-other, not-mem, low_clear}
 
@@ -54,14 +55,7 @@ lowest-lt (suc d) s h k = go (s % 2) refl (lowest-lt d (s / 2))
     go zero e ih = let k3 = k2 in suc-le-suc (ih (omega arith) (omega arith))
     go (suc r) e ih = suc-le-suc zero-le
 
--- what a walk by trailing zeros needs of a word that is not 0: `p` is its lowest member, and `r` is `s & (s - 1)`
-pub record Walk (s p r : ℕ) : Type 0 where
-  pub lt : p < 64
-  pub mem : Member p s
-  pub low : (k : ℕ) → k < p → bit k s ≡ 0
-  pub out : r ≡ s - 2 ^ p
-  pub less : r < s
-
+-- what a walk by trailing zeros needs of a word that is not 0: the zeros are its first member, and `s & (s - 1)` has the others
 pub walk : (s : ℕ) → (s ≡ 0 → ⊥) → s < 2 ^ 64 → Walk s (count_trailing_zeros 64 s) (bit_and s (s - 1))
 walk s n h =
     let m = lowest-mem 64 s (omega arith) h in

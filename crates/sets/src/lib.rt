@@ -2,12 +2,14 @@
 #![tactic(auto)]
 
 ghost use Rattle.std.specs.Prelude.{◌≡◌, ◌≤◌, ◌<◌};
+ghost use Rattle.std.specs.Iterator.{at_most};
 ghost use Rattle.sets.specs.Member.{is_member};
 ghost use Rattle.sets.specs.Without.{without_member};
 ghost use Rattle.sets.specs.Inner.Put.{with_member};
 ghost use Rattle.sets.specs.Size.{size};
 ghost use Rattle.sets.specs.Rule.{set_of};
 ghost use Rattle.sets.specs.Inner.Last.{Last};
+ghost use Rattle.sets.specs.Inner.Walk.{TakesFirst};
 
 // Whether k is in s.
 pub fn is_member(s: u64, k: usize) -> bool
@@ -54,4 +56,35 @@ pub fn last_of(s: u64) -> usize
     ensures { Last result s }
 {
     s.ilog2() as usize
+}
+
+// The members of a set, from the first on: those that are left.
+#[derive(Clone, Copy, Debug, PartialEq, Eq)]
+pub struct Members {
+    pub left: u64,
+}
+
+impl Members {
+    pub fn of(s: u64) -> Self
+        ensures { result.left ≡ s }
+    {
+        Self { left: s }
+    }
+}
+
+impl Iterator for Members {
+    type Item = usize;
+
+    ghost next_gives = { TakesFirst };
+
+    ghost remaining = { λ s. at_most s.left };
+
+    fn next(&mut self) -> Option<usize> {
+        if self.left == 0 {
+            return None;
+        }
+        let first = self.left.trailing_zeros() as usize;
+        self.left &= self.left - 1;
+        Some(first)
+    }
 }

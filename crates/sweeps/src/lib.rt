@@ -12,6 +12,7 @@ ghost use Rattle.diagrams.specs.Inner.Moved.{MovedOn};
 ghost use Rattle.diagrams.specs.Inner.Traced.{SweepIn, Traced};
 
 use segments::Segment;
+use sets::Members;
 
 // What a run leaves: the segments, the nodes' finishes, and the numbers of the cuts at which each node starts and finishes. (An array of structs of
 // the last three has 384 bytes more, and the segment step has 2,048 on the stack: `bench stack`.)
@@ -79,10 +80,7 @@ fn look(
 {
     let mut tail = from.tail;
     let mut set = from.set;
-    let mut left = done.woken;
-    while left != 0 {
-        let v = u64::trailing_zeros(left) as usize;
-        left &= left - 1;
+    for v in Members::of(done.woken) {
         let missing = parents[v] & !done.set;
         if missing == 0 {
             first[v] = cut.number as u8;

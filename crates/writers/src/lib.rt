@@ -16,6 +16,7 @@ ghost use Rattle.writers.specs.Inner.Parts.{head_numbers, nodes_to};
 ghost use Rattle.writers.specs.Inner.Puts.{Room, Puts};
 
 use refusals::{Answer, Reason, Refusal};
+use sets::Members;
 use tables::TaskTable;
 
 // The number at a place, tried in its range; as all that is tried here, it tells the place after it. Bounds on a place and on the node count stay clauses here and
@@ -92,11 +93,8 @@ impl Writer<'_> {
         requires { Room self.old (members 64 set) }
         ensures { Puts self.old self.new (members 64 set) }
     {
-        let mut left = set;
-        // A `while`: only the set tells how many members are to come, so a `for` over the places would need its size first, which is no plainer.
-        while left != 0 {
-            self.bytes[self.at] = left.trailing_zeros() as u8;
-            left &= left - 1;
+        for member in Members::of(set) {
+            self.bytes[self.at] = member as u8;
             self.at += 1;
         }
     }

@@ -4,7 +4,8 @@ use Prim.Native.Nat.{◌-◌, ◌^◌}
 use lib.Bits.{bit_and, bit_or}
 use lib.Count.{count_trailing_zeros}
 use Rattle.sets.proofs.Bits.{with-or, has_in, has-out, not-mem}
-use Rattle.sets.proofs.Walks.{Walk, walk}
+use Rattle.sets.specs.Inner.Walk.{Walk}
+use Rattle.sets.proofs.Walks.{walk}
 use Rattle.ways.proofs.Closure.{round-true, round-false}
 use Rattle.rings.proofs.Inside.{inside-tidy}
 use Rattle.rings.proofs.Taking.{Next, taking-none, taking-more, taking-less, taking-yes, taking-no}

@@ -9,8 +9,5 @@ use Rattle.rules.proofs.parents_end.Given as goal
 abbrev pub end_of : (plan : List ℕ) → ℕ → ℕ
 end_of plan p = offset_at plan p + deadline_at plan p
 
-abbrev pub invariant-loop-left : goal.invariant-loop-left
-invariant-loop-left l = Left (at l.plan.words.now 2) l.set (end_of l.plan.words.now) l.latest l.left
-
-abbrev pub decreases-loop-left : goal.decreases-loop-left
-decreases-loop-left l = l.left
+abbrev pub invariant-loop-p : goal.invariant-loop-p
+invariant-loop-p l = Left (at l.plan.words.now 2) l.set (end_of l.plan.words.now) l.latest l.p-iterator.left

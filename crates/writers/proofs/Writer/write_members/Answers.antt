@@ -1,40 +1,36 @@
--- `Writer::write_members` meets its contract: the walk by trailing zeros meets the members in their order, and each one that is stored leaves the others.
-use Prim.Native.Nat.{ℕ, ◌-◌}
+-- `Writer::write_members` meets its contract: the walk meets the members in their order, and each one that is stored leaves the others.
+use Prim.Native.Nat.{ℕ}
 use mathlib.Core.Path.{◌≡◌, refl, sym, ap, ◌∙◌}
 use mathlib.Core.List.{◌∷◌}
 use native.Mathlib.Numerals.{add-one}
 use native.Mathlib.Omega.{arith}
-use lib.Bits.{bit_and}
-use lib.Count.{count_trailing_zeros}
 use lib.ListN.{length, length-set}
 use lib.Seq.{sets}
 use Rattle.sets.specs.Members.{members}
-use Rattle.sets.proofs.Walks.{Walk, walk, no-members, members-out}
+use Rattle.sets.proofs.Walks.{no-members, members-out}
 use Rattle.writers.proofs.Writer.write_members.Goals as goal
-use Rattle.writers.proofs.Writer.write_members.Goals.{In-loop-left}
+use Rattle.writers.proofs.Writer.write_members.Goals.{In-Some}
 
-pub loop-left-init : goal.loop-left-init
-loop-left-init c = (omega arith, refl, refl, refl, refl)
+pub loop-member-init : goal.loop-member-init
+loop-member-init c =
+    let all = ap (λ m. m.left) c.into_iter-member-iterator.ensures.into_iter_gives ∙ c.of-member-items.ensures in
+    rw all (refl, refl, refl, refl)
 
--- the lowest member of those that are left, and the others
-low : (c : In-loop-left) → (let s = c.loop-left.left in Walk s (count_trailing_zeros 64 s) (bit_and s (s - 1)))
-low c = walk c.loop-left.left c.loop-left-test.true c.loop-left.invariant.0
-
-first : (c : In-loop-left) → (let s = c.loop-left.left in members 64 s ≡ count_trailing_zeros 64 s ∷ members 64 (bit_and s (s - 1)))
-first c = let w = low c in members-out 64 _ _ w.lt w.mem w.low ∙ ap (λ (r : ℕ). count_trailing_zeros 64 c.loop-left.left ∷ members 64 r) (sym w.out)
+-- the first member of those that are left, and the others
+first : (c : In-Some) → members 64 c.loop-member.member-iterator.left ≡ c.in-Some.member ∷ members 64 c.next.new.self.left
+first c = let w = c.in-Some.ensures.steps in members-out 64 _ _ w.lt w.mem w.low ∙ ap (λ (r : ℕ). c.in-Some.member ∷ members 64 r) (sym w.out)
 
 pub bounds-self-self : goal.bounds-self-self
-bounds-self-self c = omega (arith, ap length (first (goal.at.bounds-self-self c).In-loop-left))
+bounds-self-self c = omega (arith, ap length (first (goal.at.bounds-self-self c).In-Some))
 
-pub loop-left-preserved : goal.loop-left-preserved
-loop-left-preserved c = let l = c.loop-left in (
-  omega (arith, (low (goal.at.loop-left-preserved c).In-loop-left).less),
-  rw (add-one l.self.at) (l.invariant.1 ∙ ap (sets l.self.bytes.now l.self.at) (first (goal.at.loop-left-preserved c).In-loop-left)),
-  omega (arith, l.invariant.2, ap length (first (goal.at.loop-left-preserved c).In-loop-left)),
-  length-set l.self.bytes.now l.self.at _ ∙ l.invariant.3,
-  l.invariant.4,
+pub loop-member-preserved : goal.loop-member-preserved
+loop-member-preserved c = let l = c.loop-member in (
+  rw (add-one l.self.at) (l.invariant.0 ∙ ap (sets l.self.bytes.now l.self.at) (first (goal.at.loop-member-preserved c).In-Some)),
+  omega (arith, l.invariant.1, ap length (first (goal.at.loop-member-preserved c).In-Some)),
+  length-set l.self.bytes.now l.self.at _ ∙ l.invariant.2,
+  l.invariant.3,
 )
 
 pub returns : goal.returns
-returns c = let l = c.loop-left in let none = ap (members 64) c.loop-left-test.false ∙ no-members 64 in
-    record { same_reference = l.invariant.4; place = omega (arith, l.invariant.2, ap length none); bytes_after = sym (l.invariant.1 ∙ ap (sets l.self.bytes.now l.self.at) none) }
+returns c = let l = c.loop-member in let none = ap (members 64) c.in-None.ensures.steps ∙ no-members 64 in
+    record { same_reference = l.invariant.3; place = omega (arith, l.invariant.1, ap length none); bytes_after = sym (l.invariant.0 ∙ ap (sets l.self.bytes.now l.self.at) none) }
