@@ -1,7 +1,7 @@
 -- What each call comes to, case by case: its definition is a chain of tests, and each test says a rule of document 01.
-use mathlib.Core.Path.{◌≡◌, refl}
+use mathlib.Core.Path.{◌≡◌}
 use mathlib.Core.Logic.{◌⊎◌, inl, inr}
-use mathlib.Core.Bool.{Bool, true, false}
+use mathlib.Core.Bool.{Bool, true}
 use mathlib.Core.List.{List}
 use Prim.Native.Nat.{ℕ, ◌≤◌, ◌<◌}
 use native.Mathlib.Omega.{arith}
@@ -80,14 +80,7 @@ module _ (rows : List Row) (m : ℕ) where
       (λ f. asks s (let n = eqb-false m 0 z in omega arith) (ltb-false cores_max m f))))
       (λ e. unsound (λ s. true-false (test-sound s) e))
 
--- the code's test of the core count, by its range
-pub outside-refused : (m : ℕ) → between 1 m cores_max ≡ false → before_asking true m ≡ Err (refusal bad_cores 0)
-unfolding before_asking
-outside-refused m out =
-    pick-case (λ o. o ≡ Err (refusal bad_cores 0)) (eqb m 0) (λ z. refl)
-    (λ z. pick-case (λ o. o ≡ Err (refusal bad_cores 0)) (ltb cores_max m) (λ f. refl)
-    (λ f. let n = eqb-false m 0 z in let h = ltb-false cores_max m f in absurd (true-false (true-between 1 m cores_max (omega arith) h) out)))
-
+-- a core count in its range is asked for
 pub inside-asks : (m : ℕ) → between 1 m cores_max ≡ true → before_asking true m ≡ Ok tt
 unfolding before_asking
 inside-asks m e =

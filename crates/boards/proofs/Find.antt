@@ -4,9 +4,8 @@ use mathlib.Core.Logic.{⊎_elim}
 use mathlib.Core.Bool.{Bool, true, false, cond}
 use mathlib.Core.List.{List, [], ◌∷◌}
 use Prim.Native.Nat.{ℕ, zero, suc, ◌≤◌, ◌<◌, zero-le, suc-le-suc}
-use native.Mathlib.Nat.{le_of_suc-le-suc, not-suc-le-zero, le_antisymm}
+use native.Mathlib.Nat.{le_of_suc-le-suc, not-suc-le-zero}
 use native.Mathlib.Numerals.{one-add}
-use native.Mathlib.Omega.{arith}
 use lib.Dec.{eqb, ltb}
 use lib.ListN.{length}
 use borrow.Author.Tests.{eqb-true, eqb-false}
@@ -45,16 +44,6 @@ place-before id (r ∷ rs) (suc k) h e = pick-case (λ p. suc k < p → ⊥) (eq
 pub place-at-most : (id : ℕ) (rows : List Row) (k : ℕ) → (row_at rows k).id ≡ id → place_of id rows ≤ k
 place-at-most id rows k e = ⊎_elim (λ (h : k < place_of id rows). absurd (place-before id rows k h e)) (λ (h : place_of id rows ≤ k). h) (lt-or-ge k (place_of id rows))
 
--- so the lowest row that has it is the place
-pub place_is : (id : ℕ) (rows : List Row) (k : ℕ) → k < length rows → (row_at rows k).id ≡ id → ((i : ℕ) → i < k → (row_at rows i).id ≡ id → ⊥) → place_of id rows ≡ k
-place_is id rows k h e before =
-    let l = place-at-most id rows k e in
-    le_antisymm l (⊎_elim (λ (g : place_of id rows < k). absurd (before (place_of id rows) g (place-id id rows (omega arith)))) (λ (g : k ≤ place_of id rows). g) (lt-or-ge (place_of id rows) k))
-
--- and where none has it the place is their number
-pub none-place : (id : ℕ) (rows : List Row) → ((k : ℕ) → k < length rows → (row_at rows k).id ≡ id → ⊥) → place_of id rows ≡ length rows
-none-place id rows f = le_antisymm (place-le id rows) (⊎_elim (λ (h : place_of id rows < length rows). absurd (f (place_of id rows) h (place-id id rows h))) (λ (h : length rows ≤ place_of id rows). h) (lt-or-ge (place_of id rows) (length rows)))
-
 -- which is what a search by position finds
 picked : {A : Type 0} (t : Bool) (a b : A) → pick t a b ≡ cond t a b
 picked true a b = refl
@@ -66,18 +55,3 @@ by-position id rows = is_position_or_len (place_of id) (λ (r : Row). eqb r.id i
 
 pub position-place : (id : ℕ) (rows : List Row) → length rows ≡ rows_max → position (λ (r : Row). eqb r.id id) rows ≡ row_place (place_of id rows)
 position-place id rows e = rw (← (by-position id rows), e) (rw (picked (ltb (place_of id rows) rows_max) (Some (place_of id rows)) None))
-
--- of a place that is or isn't one of a row
-pub no-row : (k : ℕ) → None ≡ row_place k → ltb k rows_max ≡ false
-no-row k = by (ltb k rows_max)
-  where
-    by : (b : Bool) → None ≡ pick b (Some k) None → b ≡ false
-    by true e = absurd (let z : ◌≡◌ {A = ℕ} 0 1 = cc in omega arith)
-    by false e = refl
-
-pub some-row : (k a : ℕ) → Some a ≡ row_place k → (ltb k rows_max ≡ true) × (a ≡ k)
-some-row k a = by (ltb k rows_max)
-  where
-    by : (b : Bool) → Some a ≡ pick b (Some k) None → (b ≡ true) × (a ≡ k)
-    by true e = (refl, cc)
-    by false e = absurd (let z : ◌≡◌ {A = ℕ} 0 1 = cc in omega arith)

@@ -7,5 +7,4 @@ pub mod Keeping
 pub mod Figures
 pub mod Fractions
 pub mod Nodes
-pub mod Sides
 pub mod Walks

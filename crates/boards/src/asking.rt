@@ -16,6 +16,7 @@ use refusals::{Answer, Reason, Refusal};
 const CORES_MAX: u64 = 64;
 
 // Whether a verdict is to be given at all: 17, then 15.
+#[tactic(auto, unfolding(crate::specs::Change::before_asking))]
 pub fn before_asking(sound: bool, cores: u64) -> Result<(), Refusal>
     ensures { result ≡ before_asking sound cores }
 {

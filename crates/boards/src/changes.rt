@@ -38,6 +38,7 @@ pub fn told_place(standing: Option<usize>, free: Option<usize>) -> Result<usize,
 }
 
 // The row with this id becomes free.
+#[tactic(auto, unfolding(crate::specs::Change::withdrawn))]
 pub fn withdrawn(board: &Board, id: u64) -> Result<Change, Refusal>
     ensures told { result ≡ withdrawn board.now.rows id }
     ensures inside { IfOk result (λ change. change.at < rows_max) }

@@ -1,4 +1,4 @@
-// The board by value: which boards are sound, where a row stands, the verdict, and what each call changes.
+// The board: which boards are sound, where a row stands, the verdict, and what each call changes.
 #![tactic(auto)]
 
 ghost use Rattle.std.specs.Prelude.{◌≡◌, replicate};

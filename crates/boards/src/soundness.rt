@@ -50,6 +50,7 @@ fn is_timed(row: &Row) -> bool
 }
 
 // Whether it has no task and no densities, or both in their ranges.
+#[tactic(auto, unfolding(crate::specs::Inner::Halves::densities_fit))]
 fn densities_fit(row: &Row) -> bool
     ensures { result ≡ densities_fit row.now }
 {
@@ -57,6 +58,7 @@ fn densities_fit(row: &Row) -> bool
 }
 
 // Whether it has no times where there is no task, and else times in their ranges.
+#[tactic(auto, unfolding(crate::specs::Inner::Halves::times_fit))]
 fn times_fit(row: &Row) -> bool
     ensures { result ≡ times_fit row.now }
 {
