@@ -1,5 +1,5 @@
 -- Each call where the lent board doesn't have 16 rows: soundness begins with that number, so the board isn't sound, the call is refused as its rule says, and nothing is touched.
-use Rattle.std.proofs.Common.{◌≡◌, refl, sym, ap, ◌∙◌, Bool, false, List, ℕ, length}
+use Rattle.std.proofs.Common.{◌≡◌, refl, sym, ap, Bool, false, List, ℕ, length}
 use Rattle.std.specs.Prelude.{Result, Ok, Err, ⊤}
 use borrow.Author.Tests.{ne_eqb}
 use Rattle.refusals.specs.Numbers.{unsound_board}
@@ -15,7 +15,7 @@ use Rattle.boards.specs.Verdict.{verdict}
 use Rattle.overheads.specs.ToEnd.{verdict_to_end}
 use Rattle.boards.specs.Change.{changed, answer_to, withdrawn, before_asking, asked_by}
 use Rattle.plans.specs.Calls.{before_reading}
-use Rattle.admissions.specs.Admission.{Admission, not_admitted, noting}
+use Rattle.admissions.specs.Admission.{not_admitted, noting}
 use Rattle.guards.specs.Guarded.{admission}
 use Rattle.admissions.specs.Inner.NoBoard.{no_board}
 use Rattle.refusals.specs.After.{After}
