@@ -7,10 +7,12 @@ use Rattle.plain.specs.Pick.{pick}
 use Rattle.plain.proofs.Sums.{sum-changed, max-changed}
 use Rattle.refusals.specs.Numbers.{verdict_no}
 use Rattle.refusals.specs.declared.Refusal.{Refusal}
-use Rattle.refusals.specs.Refusal.{refusal}
+use Rattle.refusals.specs.InOrder.{in_order}
+use Rattle.refusals.specs.Refusal.{refusal, on_outcome}
 use Rattle.tables.specs.declared.TaskTable.{TaskTable}
 use Rattle.plans.specs.Words.{written}
-use Rattle.plans.specs.Calls.{before_reading, on_task}
+use Rattle.records.specs.Reading.{reading_of}
+use Rattle.plans.specs.Calls.{before_reading, on_table, on_task, task_of}
 use Rattle.plans.specs.Inner.Planned.{Planned}
 use Rattle.boards.specs.declared.Row.{Row}
 use Rattle.boards.specs.Row.{rows_max, row_at}
@@ -113,3 +115,16 @@ module _ (bytes words : List ℕ) (rows : List Row) (cores cost : ℕ) where
     pub asked-for : before_asking (is_sound rows) cores ≡ Ok tt → admission bytes words rows cores cost ≡ on_task (not_admitted words) (guarded_entry rows words cores) bytes cost
     unfolding admission
     asked-for e = rw (first, e)
+
+-- the rules before the task, in one outcome
+module _ {A : Type 0} (refuse : Refusal → A) (go : A) where
+  in-turn : (a b c : Result ⊤ Refusal) → on_outcome refuse (on_outcome refuse (on_outcome refuse go c) b) a ≡ on_outcome refuse go (in_order a b c)
+  in-turn (Ok x) (Ok y) c = refl
+  in-turn (Ok x) (Err r) c = refl
+  in-turn (Err r) b c = refl
+
+pub admission-ordered : (bytes words : List ℕ) (rows : List Row) (cores cost : ℕ)
+    → admission bytes words rows cores cost ≡ on_outcome (not_admitted words) (on_table (not_admitted words) (guarded_entry rows words cores) (task_of bytes cost))
+    (in_order (before_reading (length words) cost) (before_asking (is_sound rows) cores) (reading_of bytes).outcome)
+unfolding admission on_task
+admission-ordered bytes words rows cores cost = in-turn (not_admitted words) _ (before_reading (length words) cost) (before_asking (is_sound rows) cores) (reading_of bytes).outcome
