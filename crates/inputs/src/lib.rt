@@ -12,6 +12,7 @@ pub fn read_full<R: Read>(reader: &mut R, buffer: &mut [u8]) -> usize
     ensures bytes { Consumes (R.remaining reader.old) (R.remaining reader.new) (take result buffer.new) }
 {
     let mut done: usize = 0;
+    // A read says how far it came, so no `for` serves.
     while done < buffer.len() {
         match reader.read(&mut buffer[done..]) {
             Ok(0) | Err(_) => break,

@@ -18,6 +18,7 @@ fn goes_round(parents: &[u64; 64], set: u64, r: usize, n: usize) -> bool
     let mut met = parents[r] & set;
     let mut taken: u64 = 0;
     let mut left = met;
+    // What is left grows as it is walked, so no `for` serves.
     while left != 0 {
         if sets::is_member(left, r) {
             return true;

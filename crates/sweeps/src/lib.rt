@@ -14,8 +14,8 @@ ghost use Rattle.diagrams.specs.Inner.Traced.{SweepIn, Traced};
 use segments::Segment;
 use sets::Members;
 
-// What a run leaves: the segments, the nodes' finishes, and the numbers of the cuts at which each node starts and finishes. (An array of structs of
-// the last three has 384 bytes more, and the segment step has 2,048 on the stack: `bench stack`.)
+// What a run leaves: the segments, the nodes' finishes, and the numbers of the cuts at which each node starts and finishes. Fixed memory: one array of
+// structs for the last three takes 384 bytes more, and the segment step has 2,048 on the stack (`bench stack`).
 #[derive(Clone, Copy)]
 pub struct Trace {
     pub segments: [Segment; 64],

@@ -56,7 +56,7 @@ pub fn least_execution(edition: u64) -> u64
     if edition == 1 { 1 } else { 0 }
 }
 
-// Whether the first n executions are all 0.
+// Whether the first n executions are all 0. The number stands beside the list, here and below, as in the definition (`all_zero X n`): tables hold both.
 pub fn all_zero(executions: &[u64], n: usize) -> bool
     requires { n ≤ length executions.now }
     ensures { result ≡ all_zero executions.now n }
