@@ -2,7 +2,7 @@
 use Rattle.std.proofs.Common.{ap₂, ◌∙◌, ℕ, ◌*◌, ◌+◌, ◌-◌, arith}
 use lib.Dec.{leb}
 use Rattle.tables.specs.Limits.{million}
-use Rattle.boards.proofs.Sound.{sound-test, sum_of-le, largest_of-le}
+use Rattle.boards.proofs.Sound.{sound-test}
 use Rattle.overheads.proofs.Overhead.{overhead_of-le, overhead-fits, left-to-end-fits}
 use Rattle.overheads.proofs.verdict_to_end.Goals as goal
 
