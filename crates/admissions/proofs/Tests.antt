@@ -6,11 +6,12 @@ use Rattle.plain.specs.Pick.{pick}
 use Rattle.refusals.specs.Numbers.{long_path, unsound_board}
 use Rattle.refusals.specs.declared.Refusal.{Refusal}
 use Rattle.refusals.specs.Refusal.{refusal}
-use Rattle.refusals.specs.Answer.{refused}
+use Rattle.refusals.specs.Answer.{accepted, refused}
 use Rattle.tables.specs.declared.TaskTable.{TaskTable}
 use Rattle.ways.specs.Closure.{loops}
-use Rattle.plans.specs.Diagram.{path}
-use Rattle.plans.specs.Words.{written}
+use Rattle.plans.specs.declared.Planning.{Planning}
+use Rattle.plans.specs.Diagram.{path, segment_count}
+use Rattle.plans.specs.Words.{word_count, written}
 use Rattle.plans.specs.Calls.{loop_in, before_reading, on_table, on_task}
 use Rattle.boards.specs.declared.Row.{Row}
 use Rattle.boards.specs.declared.Change.{Change}
@@ -18,8 +19,9 @@ use Rattle.boards.specs.Row.{rows_max}
 use Rattle.boards.specs.Sound.{is_sound}
 use Rattle.boards.specs.Find.{free_at}
 use Rattle.admissions.specs.Admission.{Admission, row_of, not_admitted, entered, noting}
+use Rattle.plans.specs.Inner.Drawn.{Totalled}
 use Rattle.plans.specs.Inner.Table.{table_plan}
-use Rattle.plans.proofs.Tests.{told-out}
+use Rattle.plans.proofs.Tests.{told-out, told-in, on_fits}
 use Rattle.admissions.proofs.Place.{found, place-refused, place-accepted, later_of, later-refused}
 
 -- a task with a plan, by what the two places tell
@@ -55,6 +57,12 @@ module _ (words beside : List ℕ) (t : TaskTable) (enter : TaskTable → Admiss
   table-out {r} left =
       let p = told-out later beside t {r = r} left in
       (on-later (not_admitted words) enter t later (λ e. out r (later-refused place (sym so ∙ e))) p.0, p.1)
+
+-- none of them: the plan is written, and the task enters
+module _ (words beside : List ℕ) (t : TaskTable) (enter : TaskTable → Admission) where
+  pub table-in : {later : Result ⊤ Refusal} {p : Planning} {w : List ℕ} → Totalled t p → record { answer = accepted p.words; lent = w } ≡ table_plan later beside t
+      → (later ≡ Ok tt) × (p.words ≡ word_count (segment_count t) t.count) × (w ≡ written t beside) × (on_table (not_admitted words) enter t ≡ enter t)
+  table-in {later} ok left = let so = told-in later beside t ok left in (so.0, ok.words, so.1, on_fits (not_admitted words) enter t ok.table.free ok.table.fits)
 
 -- noting: the rules before the record's, and the board lent
 module _ (bytes words : List ℕ) (rows : List Row) (cost : ℕ) where

@@ -4,12 +4,13 @@ use Rattle.std.proofs.Common.{◌≡◌, refl, sym, ◌∙◌}
 use Rattle.std.specs.Prelude.{Ok}
 use Rattle.refusals.proofs.Out.{goes-out}
 use Rattle.tables.specs.Cost.{costed}
-use Rattle.plans.specs.Words.{written}
-use Rattle.plans.proofs.Tests.{told-in, on_fits}
+use Rattle.plans.specs.Diagram.{segment_count}
+use Rattle.plans.specs.Words.{word_count, written}
+use Rattle.plans.specs.Calls.{on_table}
 use Rattle.admissions.specs.Admission.{not_admitted, entered, row_of}
 use Rattle.admissions.specs.Inner.PlanIn.{PlanIn}
 use Rattle.admissions.proofs.Place.{found, later-accepted}
-use Rattle.admissions.proofs.Tests.{table-out, stays_out, goes_in}
+use Rattle.admissions.proofs.Tests.{table-out, table-in, stays_out, goes_in}
 use Rattle.admissions.proofs.note_table.Goals as goal
 use Rattle.admissions.proofs.note_table.Goals.{After-told_place-place, In_ok-planning}
 
@@ -27,9 +28,11 @@ returns-in_err-planning-clause-told c =
     let told = goes-out _ _ c.from_residual.ensures.1 in
     (λ i. record { change = told i; words = out.1 i }) ∙ sym out.0
 
--- where the table has a plan, its place was told, and the words are written
-written-so : (c : In_ok-planning) → (c.and.result ≡ Ok tt) × (c.plan_table.new.words ≡ written (costed c.args.table.now c.args.cost) c.args.words.now)
-written-so c = told-in c.and.result c.args.words.now (costed c.args.table.now c.args.cost) c.in_ok-planning.ensures.totalled c.in_ok-planning.ensures.words_after
+-- where the table has a plan, its place was told, the words are written, and the task enters
+written-so : (c : In_ok-planning) →
+    (let words = c.args.words.now in let t = costed c.args.table.now c.args.cost in let enter = entered c.args.board.now.rows words in
+    (c.and.result ≡ Ok tt) × (c.in_ok-planning.planning.words ≡ word_count (segment_count t) t.count) × (c.plan_table.new.words ≡ written t words) × (on_table (not_admitted words) enter t ≡ enter t))
+written-so c = let words = c.args.words.now in table-in words words (costed c.args.table.now c.args.cost) (entered c.args.board.now.rows words) c.in_ok-planning.ensures.totalled c.in_ok-planning.ensures.words_after
 
 pub returns-in_err-at-clause-told : goal.returns-in_err-at-clause-told
 returns-in_err-at-clause-told c =
@@ -43,7 +46,7 @@ plan-in c = record {
   count = refl;
   old = c.args.words.now;
   room = c.requires.1;
-  plan = (written-so c).1;
+  plan = (written-so c).2;
 }
 
 pub row_of-row-requires : goal.row_of-row-requires
@@ -55,8 +58,7 @@ returns-clause-told c =
     let words = c.args.words.now in
     let rows = c.args.board.now.rows in
     let t = costed c.args.table.now c.args.cost in
-    let ok = c.in_ok-planning.ensures.totalled.table in
     let row = c.row_of-row.ensures t (plan-in (goal.at.returns-clause-told c).In_ok-planning) in
     let goes = goes_in rows words t (sym (found-so (goal.at.returns-clause-told c).After-told_place-place) ∙ c.in_ok-at.was) in
-    let left = (written-so (goal.at.returns-clause-told c).In_ok-planning).1 in
-    (λ i. record { change = Ok (record { at = c.in_ok-at.at; row = row i }); words = left i }) ∙ sym (on_fits (not_admitted words) (entered rows words) t ok.free ok.fits ∙ goes.0)
+    let so = written-so (goal.at.returns-clause-told c).In_ok-planning in
+    (λ i. record { change = Ok (record { at = c.in_ok-at.at; row = row i }); words = so.2 i }) ∙ sym (so.3 ∙ goes.0)

@@ -7,8 +7,9 @@ use Rattle.refusals.proofs.Out.{goes-out}
 use Rattle.tables.specs.declared.TaskTable.{TaskTable}
 use Rattle.tables.specs.Limits.{million}
 use Rattle.tables.specs.Cost.{costed}
-use Rattle.plans.specs.Words.{words_max, written}
-use Rattle.plans.proofs.Tests.{told-in, on_fits}
+use Rattle.plans.specs.Diagram.{segment_count}
+use Rattle.plans.specs.Words.{words_max, word_count, written}
+use Rattle.plans.specs.Calls.{on_table}
 use Rattle.plans.proofs.Read.{words-fit}
 use Rattle.plans.proofs.Figures.{plan-fits}
 use Rattle.boards.specs.declared.Row.{Row}
@@ -20,7 +21,7 @@ use Rattle.boards.proofs.Sound.{sound-test, sum_of-le, largest_of-le}
 use Rattle.admissions.specs.Admission.{row_of, not_admitted}
 use Rattle.admissions.specs.Inner.PlanIn.{PlanIn}
 use Rattle.admissions.proofs.Place.{found}
-use Rattle.admissions.proofs.Tests.{table-out, leaves}
+use Rattle.admissions.proofs.Tests.{table-out, table-in, leaves}
 use Rattle.std.proofs.lemmas.List.{length-take-le}
 use Rattle.guards.specs.Guarded.{guarded_entry}
 use Rattle.guards.proofs.Copy.{plan-copied}
@@ -50,9 +51,13 @@ returns-in_err-planning-clause-told c =
     let told = goes-out _ _ c.from_residual.ensures.1 in
     (λ i. record { change = told i; words = words }) ∙ sym out.0
 
--- where the table has a plan, its place was told, and the words beside are written
-written-so : (c : In_ok-planning) → (c.and-later.result ≡ Ok tt) × (c.plan_table.new.words ≡ written (costed c.args.table.now c.args.cost) zeros)
-written-so c = told-in c.and-later.result zeros (costed c.args.table.now c.args.cost) c.in_ok-planning.ensures.totalled c.in_ok-planning.ensures.words_after
+-- where the table has a plan, its place was told, the words beside are written, and the guard is asked
+written-so : (c : In_ok-planning) →
+    (let words = c.args.words.now in let t = costed c.args.table.now c.args.cost in let enter = guarded_entry c.args.asking.board.now.rows words c.args.asking.cores in
+    (c.and-later.result ≡ Ok tt) × (c.in_ok-planning.planning.words ≡ word_count (segment_count t) t.count) × (c.plan_table.new.words ≡ written t zeros) × (on_table (not_admitted words) enter t ≡ enter t))
+written-so c =
+    let words = c.args.words.now in
+    table-in words zeros (costed c.args.table.now c.args.cost) (guarded_entry c.args.asking.board.now.rows words c.args.asking.cores) c.in_ok-planning.ensures.totalled c.in_ok-planning.ensures.words_after
 
 placed-so : (c : In_ok-planning) → (a : ℕ) × (c.told_place-place.result ≡ Ok a)
 placed-so c = later-told c.told_place-place.result (sym c.and-later.ensures ∙ (written-so c).0)
@@ -65,7 +70,7 @@ plan-in c = record {
   count = refl;
   old = zeros;
   room = omega arith;
-  plan = (written-so c).1;
+  plan = (written-so c).2;
 }
 
 pub row_of-row-requires : goal.row_of-row-requires
@@ -125,18 +130,17 @@ returns-in_err-at-clause-told c =
     let rows = c.args.asking.board.now.rows in
     let m = c.args.asking.cores in
     let t = costed c.args.table.now c.args.cost in
-    let ok = c.in_ok-planning.ensures.totalled.table in
     let found = found-so (goal.at.returns-in_err-at-clause-told c).After-told_place-place in
     let place = placed-so (goal.at.returns-in_err-at-clause-told c).In_ok-planning in
     let told = verdict-so (goal.at.returns-in_err-at-clause-told c).After-guard-verdict in
     leaves (goes-out _ _ c.from_residual-in_err-at.ensures.1)
-    (on_fits (not_admitted words) (guarded_entry rows words m) t ok.free ok.fits ∙ turned-away rows words m t found place.1 told {r = c.in_err-at.field-0.0} (sym c.in_err-at.ensures))
+    ((written-so (goal.at.returns-in_err-at-clause-told c).In_ok-planning).3 ∙ turned-away rows words m t found place.1 told {r = c.in_err-at.field-0.0} (sym c.in_err-at.ensures))
 
 -- the plan's words are there beside, and there is room for them
 beside-fits : (c : In_ok-planning) → c.in_ok-planning.planning.words ≤ length c.plan_table.new.words
 beside-fits c =
     let told = c.in_ok-planning.ensures.totalled in
-    omega (arith, told.words, plan-fits told.table zeros (omega arith), ap length (written-so c).1)
+    omega (arith, told.words, plan-fits told.table zeros (omega arith), ap length (written-so c).2)
 
 lent-fits : (c : In_ok-planning) → c.in_ok-planning.planning.words ≤ length c.args.words.now
 lent-fits c =
@@ -174,7 +178,7 @@ returns-clause-told c =
     let row = row-so (goal.at.returns-clause-told c).After-row_of-row in
     let copied =
     ap (λ (plan : List ℕ). plan ++ drop c.in_ok-planning.planning.words words) c.copy_from_slice.ensures.after
-    ∙ ap₂ (λ (n : ℕ) (plan : List ℕ). take n plan ++ drop n words) planned.words (written-so planning).1
+    ∙ ap₂ (λ (n : ℕ) (plan : List ℕ). take n plan ++ drop n words) planned.words (written-so planning).2
     ∙ plan-copied t zeros words in
     (λ i. record { change = Ok (record { at = kept.1 i; row = row i }); words = copied i })
-    ∙ sym (on_fits (not_admitted words) (guarded_entry rows words m) t planned.table.free planned.table.fits ∙ kept.0)
+    ∙ sym ((written-so planning).3 ∙ kept.0)
