@@ -1,4 +1,4 @@
--- Noting a task, which is document 01's admitting, on a board by value: 26 "before all others"; "Admitting checks 16, 17," the reader's refusals, "10,
+-- Noting a task, which is document 01's admitting: 26 "before all others"; "Admitting checks 16, 17," the reader's refusals, "10,
 -- 11, 12, 13."
 use Rattle.std.specs.Prelude.{List, ℕ, Result, Ok, Err, length}
 use Rattle.plain.specs.Pick.{pick}

@@ -1,4 +1,4 @@
--- What admitting keeps: the guard leaves what noting leaves, or it is a refusal, which writes row 0 as it was and no word.
+-- What admitting keeps: the guard leaves what noting leaves, or it is a refusal, which writes no row and no word.
 use mathlib.Core.Path.{◌≡◌, refl, sym, ap, ◌∙◌}
 use mathlib.Core.Bool.{true}
 use mathlib.Core.List.{List}
