@@ -45,7 +45,8 @@ pub fn step_of(found: Result<Number, Fault>, at: usize, size: usize) -> Result<R
     }
 }
 
-// The range of a number that was read whole at a place, whatever the input and however long its numbers may be.
+// The range of a number that was read whole at a place, whatever the input and however long its numbers may be. Any number may be told, not a `Reason` alone: a
+// narrower parameter would ask more of callers.
 pub fn in_range(
     step: Result<Read, Refusal>,
     at: usize,

@@ -10,6 +10,7 @@ ghost use Rattle.rings.specs.Ring.{named, ring, loop_of};
 
 use refusals::Refusal;
 
+// The sets come as the table has them, 64 words and a count (fixed memory); with the four functions here a type of its own for the two would be no plainer.
 // Whether r is reached from itself inside a set: each node that is met is taken up once, and its parents in the set are met.
 fn goes_round(parents: &[u64; 64], set: u64, r: usize, n: usize) -> bool
     requires { (n ≤ 64) × (r < n) × Tidy parents.now n }

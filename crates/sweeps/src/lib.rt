@@ -63,6 +63,8 @@ pub struct Done {
     pub woken: u64,
 }
 
+// The queue and who waits for whom stand beside the trace, in the 2,048 bytes of the stack that the segment step has (fixed memory); each function borrows what
+// it writes of the trace, and one value for all would have to say of each that the rest stays.
 // Looks at each node that is woken at a cut: it starts where all its parents are done, and else waits for the last that is not.
 fn look(
     list: &mut [u8; 64],
@@ -166,7 +168,8 @@ pub struct Swept {
     pub done: usize,
 }
 
-// Runs the timing diagram of a table. Where fewer than n nodes are done in the end, the others hold a loop.
+// Runs the timing diagram of a table. Where fewer than n nodes are done in the end, the others hold a loop. It goes from cut to cut, and ends between
+// looking and finishing, once no started node is left: no `for` knows the cuts before they are met.
 pub fn sweep(trace: &mut Trace, parents: &[u64; 64], executions: &[u64; 64], n: usize) -> Swept
     requires { SweepIn parents.now executions.now n }
     ensures { Traced parents.now executions.now n result.done result.cut.number result.cut.time (threads_of trace.new.segments) (enders_of trace.new.segments) trace.new.finishes trace.new.first trace.new.last }
@@ -188,20 +191,13 @@ pub fn sweep(trace: &mut Trace, parents: &[u64; 64], executions: &[u64; 64], n: 
             begun,
             cut,
         );
-        if begun.tail <= done.head {
-            return Swept {
-                cut,
-                done: done.head,
-            };
+        let head = done.head;
+        if begun.tail <= head {
+            return Swept { cut, done: head };
         }
-        let v = list[done.head];
-        cut = move_on(
-            &mut trace.segments,
-            &trace.finishes,
-            begun.set & !done.set,
-            v,
-            cut,
-        );
+        let v = list[head];
+        let running = begun.set & !done.set;
+        cut = move_on(&mut trace.segments, &trace.finishes, running, v, cut);
         done = finish(
             &mut trace.last,
             &list,

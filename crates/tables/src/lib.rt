@@ -8,7 +8,8 @@ ghost use Rattle.tables.specs.Table.{empty_table};
 ghost use Rattle.tables.specs.Runs.{all_zero};
 ghost use Rattle.tables.specs.Cost.{with_cost};
 
-// A parent set is one word: bit p of parents[v] is set where v waits for p.
+// A parent set is one word: bit p of parents[v] is set where v waits for p. Document 01: "The table read from a record holds 64 execution times and 64 parent
+// sets, a set being one 64-bit word. Entries past the node count are 0."
 #[derive(Clone, Copy)]
 pub struct TaskTable {
     pub edition: u64,

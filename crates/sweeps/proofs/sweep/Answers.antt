@@ -10,7 +10,7 @@ use Rattle.diagrams.specs.Inner.Sweep.{Between}
 use Rattle.diagrams.proofs.Steps.{sweep-none, looked, head-low, move-low, Onward, onward}
 use Rattle.diagrams.proofs.Ending.{sweep-end}
 use Rattle.sweeps.proofs.sweep.Goals as goal
-use Rattle.sweeps.proofs.sweep.Goals.{After-finish-done, After-look-begun, After-move_on-cut, Else-begun-done}
+use Rattle.sweeps.proofs.sweep.Goals.{After-finish-done, After-look-begun, After-move_on-cut, Else-begun-head}
 
 pub nobody-done-requires : goal.nobody-done-requires
 nobody-done-requires c = c.requires.fits
@@ -27,35 +27,35 @@ seen : (c : After-look-begun)
     Between a.parents.now a.executions.now a.n (threads_of l.trace.segments) (enders_of l.trace.segments) l.trace.last l.done.head l.done.set l.cut.number l.cut.time k.list k.finishes k.first k.waits c.look-begun.result.tail c.look-begun.result.set 0)
 seen c = let i = c.loop-begun.invariant in looked i (c.look-begun.ensures _ _ _ _ _ _ i.state)
 
-pub returns-then-begun-done : goal.returns-then-begun-done
-returns-then-begun-done c = sweep-end (seen (goal.at.returns-then-begun-done c).After-look-begun) c.if-begun-done.true
+pub returns-then-begun-head : goal.returns-then-begun-head
+returns-then-begun-head c = sweep-end (seen (goal.at.returns-then-begun-head c).After-look-begun) c.if-begun-head.true
 
 -- the first node that is not done
-low : (c : Else-begun-done) → (let h = c.loop-begun.done.head in (h < 64) × (at c.look-begun.new.list h < 64))
-low c = head-low (seen (goal.at-Else-begun-done c).After-look-begun).state c.if-begun-done.false
+low : (c : Else-begun-head) → (let h = c.loop-begun.done.head in (h < 64) × (at c.look-begun.new.list h < 64))
+low c = head-low (seen (goal.at-Else-begun-head c).After-look-begun).state c.if-begun-head.false
 
-pub bounds-list-done : goal.bounds-list-done
-bounds-list-done c = (head-low (seen (goal.at.bounds-list-done c).After-look-begun).state c.if-begun-done.false).0
+pub bounds-list-head : goal.bounds-list-head
+bounds-list-head c = (head-low (seen (goal.at.bounds-list-head c).After-look-begun).state c.if-begun-head.false).0
 
 pub move_on-cut-requires : goal.move_on-cut-requires
-move_on-cut-requires c = (move-low (seen (goal.at.move_on-cut-requires c).After-look-begun) c.if-begun-done.false, (low (goal.at.move_on-cut-requires c).Else-begun-done).1)
+move_on-cut-requires c = (move-low (seen (goal.at.move_on-cut-requires c).After-look-begun) c.if-begun-head.false, (low (goal.at.move_on-cut-requires c).Else-begun-head).1)
 
 -- after the next call the time is that of its finish
 on : (c : After-move_on-cut)
-    → Onward (seen (goal.at-After-move_on-cut c).After-look-begun) c.if-begun-done.false (threads_of c.move_on-cut.new.segments) (enders_of c.move_on-cut.new.segments) c.move_on-cut.result.number c.move_on-cut.result.time
+    → Onward (seen (goal.at-After-move_on-cut c).After-look-begun) c.if-begun-head.false (threads_of c.move_on-cut.new.segments) (enders_of c.move_on-cut.new.segments) c.move_on-cut.result.number c.move_on-cut.result.time
 on c =
     let w : c.loop-begun.done.set < 2 ^ 64 = omega arith in
-    onward (seen (goal.at-After-move_on-cut c).After-look-begun) c.if-begun-done.false w c.move_on-cut.ensures
+    onward (seen (goal.at-After-move_on-cut c).After-look-begun) c.if-begun-head.false w c.move_on-cut.ensures
 
 pub finish-done-requires : goal.finish-done-requires
 finish-done-requires c = (_, _, _, _, _, _, _, _, (on (goal.at.finish-done-requires c).After-move_on-cut).state)
 
 -- and at least that node is done
 further : (c : After-finish-done) → c.loop-begun.done.head < c.finish-done.result.head
-further c = c.finish-done.ensures.head_lt_head c.if-begun-done.false (on (goal.at-After-finish-done c).After-move_on-cut).time
+further c = c.finish-done.ensures.head_lt_head c.if-begun-head.false (on (goal.at-After-finish-done c).After-move_on-cut).time
 
 pub loop-begun-smaller : goal.loop-begun-smaller
-loop-begun-smaller c = omega (arith, further (goal.at.loop-begun-smaller c).After-finish-done, (low (goal.at.loop-begun-smaller c).Else-begun-done).0)
+loop-begun-smaller c = omega (arith, further (goal.at.loop-begun-smaller c).After-finish-done, (low (goal.at.loop-begun-smaller c).Else-begun-head).0)
 
 pub loop-begun-preserved : goal.loop-begun-preserved
 loop-begun-preserved c =
