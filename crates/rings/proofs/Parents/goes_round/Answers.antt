@@ -1,4 +1,4 @@
--- `rings::goes_round` meets its contract: at every turn what was met is reached, and each node that was taken up has its parents among what was met.
+-- `rings::Parents::goes_round` meets its contract: at every turn what was met is reached, and each node that was taken up has its parents among what was met.
 use mathlib.Core.Path.{◌≡◌, sym, ◌∙◌}
 use Prim.Native.Nat.{◌-◌, ◌^◌}
 use lib.Bits.{bit_and, bit_or}
@@ -9,27 +9,27 @@ use Rattle.sets.proofs.Walks.{walk}
 use Rattle.ways.proofs.Closure.{round-true, round-false}
 use Rattle.rings.proofs.Inside.{inside-tidy}
 use Rattle.rings.proofs.Taking.{Next, taking-none, taking-more, taking-less, taking-yes, taking-no}
-use Rattle.rings.proofs.goes_round.Goals as goal
-use Rattle.rings.proofs.goes_round.Goals.{After-with_member-taken, Else-is_member}
+use Rattle.rings.proofs.Parents.goes_round.Goals as goal
+use Rattle.rings.proofs.Parents.goes_round.Goals.{After-with_member-taken, Else-is_member}
 
 pub loop-left-init : goal.loop-left-init
-loop-left-init c = taking-none c.requires.2 c.ranges.set.fits
+loop-left-init c = taking-none c.args.self.tidy c.ranges.set.fits
 
 -- r is left
 pub returns-then-is_member : goal.returns-then-is_member
 returns-then-is_member c =
     let a = c.args in
-    sym (round-true (inside-tidy a.parents.now a.n a.set) (taking-yes c.loop-left.invariant (has_in a.r c.loop-left.left (sym c.is_member.ensures ∙ c.if-is_member.true))))
+    sym (round-true (inside-tidy a.self.sets.now a.self.n a.set) (taking-yes c.loop-left.invariant (has_in a.r c.loop-left.left (sym c.is_member.ensures ∙ c.if-is_member.true))))
 
 -- or is not, and the lowest that is left is taken up
 low : (c : Else-is_member) → let l = c.loop-left.left in Walk l (count_trailing_zeros 64 l) (bit_and l (l - 1))
 low c = walk c.loop-left.left c.loop-left-test.true c.loop-left.invariant.left_word
 
-next : (c : Else-is_member) → let a = c.args in let l = c.loop-left in Next a.parents.now a.n a.set a.r l.met l.taken l.left (count_trailing_zeros 64 l.left)
+next : (c : Else-is_member) → let a = c.args in let l = c.loop-left in Next a.self.sets.now a.self.n a.set a.r l.met l.taken l.left (count_trailing_zeros 64 l.left)
 next c =
     let out = has-out c.args.r c.loop-left.left (sym c.is_member.ensures ∙ c.if-is_member.false) in
     record {
-      tidy = c.requires.2;
+      tidy = c.args.self.tidy;
       word = c.ranges.set.fits;
       taking = c.loop-left.invariant;
       low = (low c).lt;
@@ -48,7 +48,7 @@ loop-left-preserved c = rw (put (goal.at.loop-left-preserved c).After-with_membe
 pub returns : goal.returns
 returns c =
     let a = c.args in
-    sym (round-false (inside-tidy a.parents.now a.n a.set) (taking-no c.loop-left.invariant c.loop-left-test.false))
+    sym (round-false (inside-tidy a.self.sets.now a.self.n a.set) (taking-no c.loop-left.invariant c.loop-left-test.false))
 
 pub loop-left-smaller : goal.loop-left-smaller
 loop-left-smaller c = rw (put (goal.at.loop-left-smaller c).After-with_member-taken) (taking-less (next (goal.at.loop-left-smaller c).Else-is_member))
