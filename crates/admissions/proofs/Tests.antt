@@ -1,27 +1,27 @@
 -- What noting comes to by the tests that it makes, in their order, and where admitting makes the same ones, that too.
-use Rattle.std.proofs.Common.{◌≡◌, sym, ap, ◌∙◌, Bool, true, false, List, ℕ, ◌<◌, length}
+use Rattle.std.proofs.Common.{◌≡◌, refl, sym, ap, ◌∙◌, Bool, true, false, List, ℕ, ◌≤◌, ◌<◌, length, arith}
 use Rattle.std.specs.Prelude.{Result, Ok, Err, ⊤}
 use lib.Dec.{ltb}
 use Rattle.plain.specs.Pick.{pick}
 use Rattle.refusals.specs.Numbers.{long_path, unsound_board}
 use Rattle.refusals.specs.declared.Refusal.{Refusal}
 use Rattle.refusals.specs.Refusal.{refusal}
+use Rattle.refusals.specs.After.{After}
 use Rattle.refusals.specs.Answer.{accepted, refused}
 use Rattle.tables.specs.declared.TaskTable.{TaskTable}
 use Rattle.ways.specs.Closure.{loops}
-use Rattle.plans.specs.declared.Planning.{Planning}
 use Rattle.plans.specs.Diagram.{path, segment_count}
 use Rattle.plans.specs.Words.{word_count, written}
-use Rattle.plans.specs.Calls.{loop_in, before_reading, on_table, on_task}
+use Rattle.plans.specs.Calls.{loop_in, before_reading, on_table, on_task, unplanned}
 use Rattle.boards.specs.declared.Row.{Row}
 use Rattle.boards.specs.declared.Change.{Change}
 use Rattle.boards.specs.Row.{rows_max}
 use Rattle.boards.specs.Sound.{is_sound}
 use Rattle.boards.specs.Find.{free_at}
 use Rattle.admissions.specs.Admission.{Admission, row_of, not_admitted, entered, noting}
-use Rattle.plans.specs.Inner.Drawn.{Totalled}
-use Rattle.plans.specs.Inner.Table.{table_plan}
-use Rattle.plans.proofs.Tests.{told-out, told-in, on_fits}
+use Rattle.plans.specs.Inner.Planned.{Planned}
+use Rattle.plans.specs.Inner.Table.{unless_later, table_plan}
+use Rattle.plans.proofs.Tests.{told-out, on_fits}
 use Rattle.admissions.proofs.Place.{found, place-refused, place-accepted, later_of, later-refused}
 
 -- a task with a plan, by what the two places tell
@@ -60,9 +60,14 @@ module _ (words beside : List ℕ) (t : TaskTable) (enter : TaskTable → Admiss
 
 -- none of them: the plan is written, and the task enters
 module _ (words beside : List ℕ) (t : TaskTable) (enter : TaskTable → Admission) where
-  pub table-in : {later : Result ⊤ Refusal} {p : Planning} {w : List ℕ} → Totalled t p → record { answer = accepted p.words; lent = w } ≡ table_plan later beside t
-      → (later ≡ Ok tt) × (p.words ≡ word_count (segment_count t) t.count) × (w ≡ written t beside) × (on_table (not_admitted words) enter t ≡ enter t)
-  table-in {later} ok left = let so = told-in later beside t ok left in (so.0, ok.words, so.1, on_fits (not_admitted words) enter t ok.table.free ok.table.fits)
+  pub table-in : {later : Result ⊤ Refusal} {n : ℕ} {w : List ℕ} → 1 ≤ n → Planned t → record { answer = accepted n; lent = w } ≡ table_plan later beside t
+      → (later ≡ Ok tt) × (n ≡ word_count (segment_count t) t.count) × (w ≡ written t beside) × (on_table (not_admitted words) enter t ≡ enter t)
+  table-in {later} {n} {w} some ok left = by later (left ∙ on_fits (unplanned beside) (unless_later later beside) t ok.free ok.fits)
+    where
+      by : (l : Result ⊤ Refusal) → record { answer = accepted n; lent = w } ≡ unless_later l beside t
+          → (l ≡ Ok tt) × (n ≡ word_count (segment_count t) t.count) × (w ≡ written t beside) × (on_table (not_admitted words) enter t ≡ enter t)
+      by (Ok done) e = (refl, ap (λ (x : After (List ℕ)). x.answer.value) e, ap (λ (x : After (List ℕ)). x.lent) e, on_fits (not_admitted words) enter t ok.free ok.fits)
+      by (Err r) e = absurd (let z : n ≡ 0 = ap (λ (x : After (List ℕ)). x.answer.value) e in omega arith)
 
 -- noting: the rules before the record's, and the board lent
 module _ (bytes words : List ℕ) (rows : List Row) (cost : ℕ) where

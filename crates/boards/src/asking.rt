@@ -47,7 +47,7 @@ impl<'a> Asking<'a> {
     }
 }
 
-// Asking for any verdict: 17 and 15, else 1 for yes and 0 for no.
+// Asking for any verdict: 17 and 15, else 1 for yes and 0 for no, as C reads it.
 pub fn asked_by<F: FnOnce(Asking) -> bool>(
     board: &Board,
     cores: u64,

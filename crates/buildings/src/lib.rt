@@ -37,7 +37,8 @@ pub struct Counts {
     pub dense: u64,
 }
 
-// What a file comes to: how the walk ended, and the counts of the records before that. Both lie as C's struct planner_counts has them, so the answer is no Result here,
+// What a file comes to: how the walk ended, and the counts of the records before that. Both lie as C's struct planner_counts has them, so the answer is no
+// Result here,
 // and a refusal is counted under its number.
 #[repr(C)]
 #[derive(Clone, Copy)]

@@ -40,7 +40,9 @@ pub fn read_input<R: Read>(reader: &mut R, buffer: &mut [u8]) -> Option<usize>
     Some(got)
 }
 
-// Prints what a function writes of the input into `out`, or says under the program's name that the input cannot be read.
+// Prints what a function writes of the input into `out`, or says under the program's name that the input cannot be read. No clause can say what a handle
+// prints:
+// the gate compares it.
 pub fn print_sheet<F: FnOnce(&[u8], &mut [u8]) -> usize>(
     rt: HostRuntime,
     program: &str,

@@ -1,4 +1,5 @@
-// Mends the record on standard input onto standard output, and tells on standard error what was mended. The longest record that can be mended has 65,808 bytes; one
+// Mends the record on standard input onto standard output, and tells on standard error what was mended. The longest record that can be mended has 65,808
+// bytes; one
 // byte more is read, since that shows 9.
 #![tactic(auto)]
 

@@ -36,12 +36,13 @@ pub struct Counts {
 
 // The table of a given record, and what is to be mended of it.
 #[derive(Clone, Copy)]
-pub struct Found {
+struct Found {
     pub table: TaskTable,
     pub counts: Counts,
 }
 
-// What a given record comes to. No `Result`, since document 01 has a refusal come "from any reader of a table", with "a table that is all zeros"; it has no counts.
+// What a given record comes to. No `Result`, since document 01 has a refusal come "from any reader of a table", with "a table that is all zeros"; it has no
+// counts.
 #[derive(Clone, Copy)]
 pub struct Draft {
     pub outcome: Result<(), Refusal>,

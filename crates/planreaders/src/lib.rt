@@ -18,7 +18,7 @@ use tables::TaskTable;
 // A plan record's number has at most this many bytes after its first.
 const PLAN_MORE: u64 = 8;
 
-// The number at a place, whole.
+// The number at a place, whole. Two functions hand a place on here: a reader as `records` has one would be its twin.
 fn read_value(plan: &[u8], at: usize) -> Result<Read, Refusal>
     requires { at ≤ length plan.now }
     ensures { result ≡ whole_in plan_more plan.now at }

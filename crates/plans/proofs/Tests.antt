@@ -60,15 +60,6 @@ module _ {A : Type 0} (refuse : Refusal → A) (go : TaskTable → A) (t : TaskT
       by false true e = let same : r ≡ refusal long_path 0 = cc in rw same
       by false false e = absurd (not-both e refl)
 
-  pub table-accepted : outcome_of t ≡ Ok tt → on_table refuse go t ≡ go t
-  unfolding on_table
-  table-accepted = by (loops t.parents t.count) (ltb t.period (path t))
-    where
-      by : (b c : Bool) → tested b (loop_in t) c (Ok tt) ≡ Ok tt → pick b (refuse (loop_in t)) (pick c (refuse (refusal long_path 0)) (go t)) ≡ go t
-      by true c e = absurd (not-both refl e)
-      by false true e = absurd (not-both refl e)
-      by false false e = refl
-
 -- a record, by the outcome of its reading
 module _ {A : Type 0} (refuse : Refusal → A) (go : TaskTable → A) (bytes : List ℕ) (cost : ℕ) where
   pub task-refused : {r : Refusal} → (reading_of bytes).outcome ≡ Err r → on_task refuse go bytes cost ≡ refuse r
@@ -118,9 +109,9 @@ module _ (t : TaskTable) (later : Result ⊤ Refusal) where
       by false e = rw (path-is e)
 
   -- a refusal goes out, and the words stay as they were
-  pub table-out : {r : Refusal} (words : List ℕ) → on_table Err (λ _. later) t ≡ Err r → table_plan later words t ≡ unplanned words r
+  pub rules-refuse : {r : Refusal} (words : List ℕ) → on_table Err (λ _. later) t ≡ Err r → table_plan later words t ≡ unplanned words r
   unfolding on_table
-  table-out {r} words = by (loops t.parents t.count) (ltb t.period (path t)) later
+  rules-refuse {r} words = by (loops t.parents t.count) (ltb t.period (path t)) later
     where
       by : (b c : Bool) (l : Result ⊤ Refusal) → tested b (loop_in t) c l ≡ Err r → pick b (unplanned words (loop_in t)) (pick c (unplanned words (refusal long_path 0)) (unless_later l words t)) ≡ unplanned words r
       by true c l e = let same : loop_in t ≡ r = cc in ap (unplanned words) same
@@ -129,9 +120,9 @@ module _ (t : TaskTable) (later : Result ⊤ Refusal) where
       by false false (Err told) e = let same : told ≡ r = cc in ap (unplanned words) same
 
   -- no refusal: there is no loop, the path fits, and the later rules refuse nothing
-  pub table-in : on_table Err (λ _. later) t ≡ Ok tt → (loops t.parents t.count ≡ false) × (path t ≤ t.period) × (later ≡ Ok tt)
+  pub rules-pass : on_table Err (λ _. later) t ≡ Ok tt → (loops t.parents t.count ≡ false) × (path t ≤ t.period) × (later ≡ Ok tt)
   unfolding on_table
-  table-in = by (loops t.parents t.count) (ltb t.period (path t)) refl refl
+  rules-pass = by (loops t.parents t.count) (ltb t.period (path t)) refl refl
     where
       by : (b c : Bool) → loops t.parents t.count ≡ b → ltb t.period (path t) ≡ c → tested b (loop_in t) c later ≡ Ok tt → (loops t.parents t.count ≡ false) × (path t ≤ t.period) × (later ≡ Ok tt)
       by true c l h e = absurd cc

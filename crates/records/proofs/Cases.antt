@@ -33,11 +33,6 @@ pub then-refused : {A : Type 0} (out : Refusal → A) (step : Step) (more : ℕ 
 unfolding and_then
 then-refused out step more r e = rw e
 
--- a refusal is the same whatever would have come after it
-pub then-out : {A : Type 0} (out : Refusal → A) (step found : Step) (more instead : ℕ → ℕ → A) (r : Refusal) →
-    found ≡ step → found ≡ Err r → and_then out found instead ≡ and_then out step more
-then-out out step found more instead r e d = then-refused _ _ _ _ d ∙ sym (then-refused _ _ _ _ (sym e ∙ d))
-
 -- what the number reader found in the part that it was handed
 pub whole_is : (more : ℕ) (s : List ℕ) (at : ℕ) (found : Result Number Fault) → found ≡ number more (take (length s - at) (drop at s)) →
     step_of (length s) at found ≡ whole_in more s at

@@ -24,7 +24,7 @@ use texts::Page;
 // The limit of specs/: so many bytes hold every sheet.
 pub const SHEET_MAX: usize = 16_384;
 
-/// Prints what `put` writes at the buffer's start, and answers its number of bytes; a smaller buffer than SHEET_MAX is left as it is.
+// Prints what `put` writes at the buffer's start, and answers its number of bytes; a smaller buffer than SHEET_MAX is left as it is.
 pub fn print<F: FnOnce(&mut Page)>(out: &mut [u8], put: F) -> usize
     requires { (page : MutBor Page) → SheetRoom page.now → F.pre put page }
     ensures { (text : List ℕ) → ((old new : MutBor Page) → F.post put old tt new → Puts old.now text new.now) → Prints text out.old result out.new }

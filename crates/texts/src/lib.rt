@@ -6,7 +6,7 @@ ghost use Rattle.texts.specs.Decimal.{decimal};
 ghost use Rattle.texts.specs.Lines.{field, line};
 ghost use Rattle.texts.specs.Inner.Page.{HasRoom, Puts, words_of};
 
-/// A text in a lent buffer: its first `end` bytes are written, and each writer goes on behind them.
+// A text in a lent buffer: its first `end` bytes are written, and each writer goes on behind them.
 #[derive(Drop)]
 pub struct Page<'a> {
     pub out: &'a mut [u8],

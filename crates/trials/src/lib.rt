@@ -27,7 +27,7 @@ impl Rule {
     }
 }
 
-// The first broken rule. A rule is tried only where those before it hold: they bound its sums.
+// The first broken rule. A rule is tried only where those before it hold: they bound its sums. docs/CONTRACTS.md names the six parameters.
 pub fn first_broken(
     own: &[u64],
     plan: &[u64],

@@ -13,7 +13,7 @@ pub struct Weighed {
     pub longest: u64,
 }
 
-// The work and the longest of n weights. The number stands beside the array, as in the definitions (`work_of X n`): tables hold both.
+// The work and the longest of n weights, which stand as a table has them (tables::TaskTable). The number stands beside the array, as in the definitions (`work_of X n`): tables hold both.
 pub fn weigh(weights: &[u64; 64], n: usize) -> Weighed
     requires { (n ≤ 64) × ((v : ℕ) → at weights.now v ≤ weight_max) }
     ensures { (result.work ≡ work_of weights.now n) × (result.longest ≡ longest_of weights.now n) }

@@ -84,12 +84,6 @@ module _ (n set : ℕ) where
       by true p h = cc
       by false p h = record { place = place; came = refl; all = ltb-false _ _ p; next-is = cc }
 
-  pub parents-near : (place next : ℕ) → Ok next ≡ parents_tried n set (Ok place) → next ≤ place + n
-  parents-near place next h =
-      let f = parents-passed (Ok place) next (sym h) in
-      let same : f.place ≡ place = cc in
-      omega (arith, f.next-is, size-full n set)
-
 -- a node goes no further than `node_max`, and stays where it follows a refusal
 module _ (least n e set : ℕ) where
   pub node-near : (place next : ℕ) → n ≤ count_max → Ok next ≡ node_tried least n e set (Ok place) → next ≤ place + node_max

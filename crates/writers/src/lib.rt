@@ -19,7 +19,8 @@ use refusals::{Answer, Reason, Refusal};
 use sets::Members;
 use tables::TaskTable;
 
-// The number at a place, tried in its range; as all that is tried here, it tells the place after it. Bounds on a place and on the node count stay clauses here and
+// The number at a place, tried in its range; as all that is tried here, it tells the place after it. Bounds on a place and on the node count stay clauses
+// here and
 // below: they are known only once the count was tried, so a type of their own would be made in one place alone, which is no plainer.
 fn try_number(
     place: usize,

@@ -1,10 +1,13 @@
 -- `admissions::note_table` meets its contract: what the two places tell is a refusal just where the board has no room for the row, planning hands
 -- it on where the table has a plan, and the row read off the words just written is the task's.
-use Rattle.std.proofs.Common.{◌≡◌, refl, sym, ◌∙◌}
+use Rattle.std.proofs.Common.{◌≡◌, refl, sym, ◌∙◌, ◌≤◌, arith}
 use Rattle.std.specs.Prelude.{Ok}
 use Rattle.refusals.proofs.Out.{goes-out}
+use Rattle.tables.specs.declared.TaskTable.{TaskTable}
 use Rattle.tables.specs.Cost.{costed}
 use Rattle.plans.specs.Diagram.{segment_count}
+use Rattle.plans.specs.Inner.Drawn.{Totalled}
+use Rattle.plans.specs.declared.Planning.{Planning}
 use Rattle.plans.specs.Words.{word_count, written}
 use Rattle.plans.specs.Calls.{on_table}
 use Rattle.admissions.specs.Admission.{not_admitted, entered, row_of}
@@ -28,11 +31,15 @@ returns-in_err-planning-clause-told c =
     let told = goes-out _ _ c.from_residual.ensures.1 in
     (λ i. record { change = told i; words = out.1 i }) ∙ sym out.0
 
+-- a plan has words
+some : {t : TaskTable} {p : Planning} → Totalled t p → 1 ≤ p.words
+some s = omega (arith, s.words)
+
 -- where the table has a plan, its place was told, the words are written, and the task enters
 written-so : (c : In_ok-planning) →
     (let words = c.args.words.now in let t = costed c.args.table.now c.args.cost in let enter = entered c.args.board.now.rows words in
     (c.and.result ≡ Ok tt) × (c.in_ok-planning.planning.words ≡ word_count (segment_count t) t.count) × (c.plan_table.new.words ≡ written t words) × (on_table (not_admitted words) enter t ≡ enter t))
-written-so c = let words = c.args.words.now in table-in words words (costed c.args.table.now c.args.cost) (entered c.args.board.now.rows words) c.in_ok-planning.ensures.totalled c.in_ok-planning.ensures.words_after
+written-so c = let words = c.args.words.now in table-in words words (costed c.args.table.now c.args.cost) (entered c.args.board.now.rows words) (some c.in_ok-planning.ensures.totalled) c.in_ok-planning.ensures.totalled.table c.in_ok-planning.ensures.words_after
 
 pub returns-in_err-at-clause-told : goal.returns-in_err-at-clause-told
 returns-in_err-at-clause-told c =

@@ -8,6 +8,8 @@ use Rattle.tables.specs.declared.TaskTable.{TaskTable}
 use Rattle.tables.specs.Limits.{million}
 use Rattle.tables.specs.Cost.{costed}
 use Rattle.plans.specs.Diagram.{segment_count}
+use Rattle.plans.specs.Inner.Drawn.{Totalled}
+use Rattle.plans.specs.declared.Planning.{Planning}
 use Rattle.plans.specs.Words.{words_max, word_count, written}
 use Rattle.plans.specs.Calls.{on_table}
 use Rattle.plans.proofs.Read.{words-fit}
@@ -51,13 +53,17 @@ returns-in_err-planning-clause-told c =
     let told = goes-out _ _ c.from_residual.ensures.1 in
     (λ i. record { change = told i; words = words }) ∙ sym out.0
 
+-- a plan has words
+some : {t : TaskTable} {p : Planning} → Totalled t p → 1 ≤ p.words
+some s = omega (arith, s.words)
+
 -- where the table has a plan, its place was told, the words beside are written, and the guard is asked
 written-so : (c : In_ok-planning) →
     (let words = c.args.words.now in let t = costed c.args.table.now c.args.cost in let enter = guarded_entry c.args.asking.board.now.rows words c.args.asking.cores in
     (c.and-later.result ≡ Ok tt) × (c.in_ok-planning.planning.words ≡ word_count (segment_count t) t.count) × (c.plan_table.new.words ≡ written t zeros) × (on_table (not_admitted words) enter t ≡ enter t))
 written-so c =
     let words = c.args.words.now in
-    table-in words zeros (costed c.args.table.now c.args.cost) (guarded_entry c.args.asking.board.now.rows words c.args.asking.cores) c.in_ok-planning.ensures.totalled c.in_ok-planning.ensures.words_after
+    table-in words zeros (costed c.args.table.now c.args.cost) (guarded_entry c.args.asking.board.now.rows words c.args.asking.cores) (some c.in_ok-planning.ensures.totalled) c.in_ok-planning.ensures.totalled.table c.in_ok-planning.ensures.words_after
 
 placed-so : (c : In_ok-planning) → (a : ℕ) × (c.told_place-place.result ≡ Ok a)
 placed-so c = later-told c.told_place-place.result (sym c.and-later.ensures ∙ (written-so c).0)

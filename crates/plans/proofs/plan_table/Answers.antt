@@ -24,7 +24,7 @@ use Rattle.plans.specs.Inner.Table.{unless_later}
 use Rattle.plans.proofs.Table.{path-latest}
 use Rattle.plans.proofs.Drawn.{path-so}
 use Rattle.plans.proofs.Front.{front-back, past-front}
-use Rattle.plans.proofs.Tests.{on_fits, tested-so, table-out, table-in}
+use Rattle.plans.proofs.Tests.{on_fits, tested-so, rules-refuse, rules-pass}
 use Rattle.plans.proofs.plan_table.Goals as goal
 use Rattle.plans.proofs.plan_table.Goals.{After-add_cost, After-sweep-swept, After-tested, After-weigh-weighed, After-write_segments, In_ok-tested}
 
@@ -51,12 +51,12 @@ pub returns-in_err-tested : goal.returns-in_err-tested
 returns-in_err-tested c =
     let a = c.args in
     let t = costed a.table.now a.cost in
-    let out = table-out t a.later a.words.now (sym (answered (goal.at.returns-in_err-tested c).After-tested) ∙ c.in_err-tested.was) in
+    let out = rules-refuse t a.later a.words.now (sym (answered (goal.at.returns-in_err-tested c).After-tested) ∙ c.in_err-tested.was) in
     rw (goes-out _ _ c.from_residual.ensures.1) (record { words_after = sym out; totalled = tt })
 
 -- ---- no refusal: the table has a plan, and the run is cut up as it
 passed : (c : In_ok-tested) → (let t = costed c.args.table.now c.args.cost in (loops t.parents t.count ≡ false) × (path t ≤ t.period) × (c.args.later ≡ Ok tt))
-passed c = table-in (costed c.args.table.now c.args.cost) c.args.later (sym (answered (goal.at.In_ok-tested c).After-tested) ∙ c.in_ok-tested.was)
+passed c = rules-pass (costed c.args.table.now c.args.cost) c.args.later (sym (answered (goal.at.In_ok-tested c).After-tested) ∙ c.in_ok-tested.was)
 
 planned : (c : In_ok-tested) → Planned (costed c.args.table.now c.args.cost)
 planned c = record { range = c.requires.0; free = (passed c).0; fits = (passed c).1 }
