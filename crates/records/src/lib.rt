@@ -4,10 +4,11 @@
 ghost use Rattle.std.specs.Prelude.{◌≡◌, ℕ, ◌+◌, ◌≤◌, List, length, Ok};
 ghost use Rattle.tables.specs.Limits.{count_max};
 ghost use Rattle.refusals.specs.Numbers.{number_of};
+ghost use Rattle.refusals.specs.Refusal.{on_outcome};
 ghost use Rattle.numbers.specs.Number.{worth};
 ghost use Rattle.records.specs.Ranged.{step_of, whole_in, ranged_in, ranged};
 ghost use Rattle.records.specs.Parents.{parents, parent_set};
-ghost use Rattle.records.specs.Nodes.{with_table, nothing_follows, nodes};
+ghost use Rattle.records.specs.Nodes.{table_read, no_table, with_table, nothing_follows, nodes};
 ghost use Rattle.records.specs.Reading.{reading_of};
 ghost use Rattle.records.specs.Inner.Reader.{step_to};
 
@@ -30,6 +31,7 @@ pub struct Reading {
 }
 
 // What was found for the number at a place of an input of size bytes: its value with the place after it, or the refusal.
+#[inline(always)]
 pub fn step_of(found: Result<Number, Fault>, at: usize, size: usize) -> Result<Read, Refusal>
     requires { (v n : ℕ) → found ≡ Ok (worth v n) → at + n ≤ size }
     ensures { result ≡ step_of size at found }
@@ -47,6 +49,7 @@ pub fn step_of(found: Result<Number, Fault>, at: usize, size: usize) -> Result<R
 
 // The range of a number that was read whole at a place, whatever the input and however long its numbers may be. Any number may be told, not a `Reason` alone: a
 // narrower parameter would ask more of callers.
+#[inline(always)]
 pub fn in_range(
     step: Result<Read, Refusal>,
     at: usize,
@@ -63,11 +66,11 @@ pub fn in_range(
     Ok(read)
 }
 
-// A whole table, where no byte follows it and its executions are not all zeros.
+// After a table's last node: no byte follows, and its executions are not all zeros.
 #[tactic(auto, unfolding(crate::specs::Nodes::nothing_follows))]
-fn nothing_follows(bytes: &[u8], at: usize, table: TaskTable) -> Result<TaskTable, Refusal>
-    requires { table.count ≤ length table.execution }
-    ensures { with_table result ≡ nothing_follows table bytes.now at }
+fn nothing_follows(bytes: &[u8], at: usize, table: &TaskTable) -> Result<(), Refusal>
+    requires { table.now.count ≤ length table.now.execution }
+    ensures { on_outcome no_table (table_read table.now) result ≡ nothing_follows table.now bytes.now at }
 {
     if at < bytes.len() {
         return Err(Reason::BytesFollow.at(at));
@@ -75,7 +78,7 @@ fn nothing_follows(bytes: &[u8], at: usize, table: TaskTable) -> Result<TaskTabl
     if tables::all_zero(&table.execution, table.count) {
         return Err(Reason::NoneRuns.at(0));
     }
-    Ok(table)
+    Ok(())
 }
 
 // A record, and how far it was read.
@@ -87,7 +90,7 @@ struct Reader<'a> {
 }
 
 impl Reader<'_> {
-    // The next number, whole, and only then its range. In line: out of line a record takes a fifth more instructions.
+    // The next number, whole, and only then its range. In line, with what it calls: out of line each number takes twice the instructions.
     #[inline(always)]
     fn read_ranged(&mut self, broken: Reason, low: u64, high: u64) -> Result<u64, Refusal>
         ensures step { step_to result self.new.at ≡ ranged (number_of broken) low high self.old.bytes.now self.old.at }
@@ -128,13 +131,12 @@ impl Reader<'_> {
     }
 
     // The nodes of a table whose head was read, into it.
-    fn read_nodes(&mut self, head: TaskTable) -> Result<TaskTable, Refusal>
-        requires { (1 ≤ head.count) × (head.count ≤ count_max) }
-        ensures { with_table result ≡ nodes head.count 0 head self.old.bytes.now self.old.at }
+    fn read_nodes(&mut self, table: &mut TaskTable) -> Result<(), Refusal>
+        requires { (1 ≤ table.old.count) × (table.old.count ≤ count_max) }
+        ensures { on_outcome no_table (table_read table.new) result ≡ nodes table.old.count 0 table.old self.old.bytes.now self.old.at }
     {
-        let n = head.count;
-        let least = tables::least_execution(head.edition);
-        let mut table = head;
+        let n = table.count;
+        let least = tables::least_execution(table.edition);
         for i in 0..n {
             let execution = self.read_ranged(
                 Reason::BadExecution,
@@ -158,13 +160,15 @@ pub fn read_table(bytes: &[u8]) -> Result<TaskTable, Refusal>
     let id = reader.read_ranged(Reason::BadId, 1, TaskTable::ID_MAX)?;
     let period = reader.read_ranged(Reason::BadPeriod, 1, TaskTable::PERIOD_MAX)?;
     let count = reader.read_ranged(Reason::BadCount, 1, TaskTable::COUNT_MAX)?;
-    reader.read_nodes(TaskTable {
+    let mut table = TaskTable {
         edition,
         id,
         period,
         count: count as usize,
         ..TaskTable::empty()
-    })
+    };
+    reader.read_nodes(&mut table)?;
+    Ok(table)
 }
 
 // The same, with the table of zeros beside a refusal.

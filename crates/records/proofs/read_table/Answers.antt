@@ -6,14 +6,15 @@ use Rattle.refusals.specs.Numbers.{bad_id, bad_period, bad_count}
 use Rattle.refusals.proofs.Out.{goes-out}
 use Rattle.tables.specs.declared.TaskTable.{TaskTable}
 use Rattle.tables.specs.Limits.{id_max, period_max, count_max}
-use Rattle.records.specs.Nodes.{with_table, nodes}
+use Rattle.refusals.specs.Refusal.{on_outcome}
+use Rattle.records.specs.Nodes.{table_read, no_table, with_table, nodes}
 use Rattle.records.specs.Ranged.{ranged}
 use Rattle.records.specs.Reading.{reading_of}
 use Rattle.records.specs.Step.{read}
 use Rattle.records.proofs.Cases.{then-read, then-refused}
 use Rattle.records.proofs.Inside.{passed}
 use Rattle.records.proofs.read_table.Goals as goal
-use Rattle.records.proofs.read_table.Goals.{In_ok-edition, In_ok-id, In_ok-period, In_ok-count, In_err-id, In_err-period, In_err-count}
+use Rattle.records.proofs.read_table.Goals.{In_ok-edition, In_ok-id, In_ok-period, In_ok-count, In_err-id, In_err-period, In_err-count, After-read_nodes}
 
 -- the reader reads one record all along
 same-1 : (c : In_ok-edition) → c.read_ranged.new.self.bytes ≡ c.args.bytes
@@ -69,10 +70,18 @@ returns-in_err-count c = ap with_table (goes-out _ _ c.from_residual-in_err-coun
 pub read_nodes-requires : goal.read_nodes-requires
 read_nodes-requires c = let p = passed _ _ _ _ _ _ _ _ _ c.in_ok-count.ensures.step refl c.read_ranged-3.new.self.inside in omega (arith, p.least, p.most)
 
-pub returns : goal.returns
+-- the nodes are those of the head that was read
+nodes-so : (c : After-read_nodes) → on_outcome no_table (table_read c.read_nodes.new.table) c.read_nodes.result ≡ reading_of c.args.bytes.now
 unfolding reading_of
-returns c = let same = c.in_ok-count.ensures.record ∙ same-3 (goal.at.returns c).In_ok-period in
+nodes-so c = let same = c.in_ok-count.ensures.record ∙ same-3 (goal.at-After-read_nodes c).In_ok-period in
     c.read_nodes.ensures
     ∙ ap (λ (zeros : TaskTable). nodes c.in_ok-count.count 0 (record { edition = c.in_ok-edition.edition; id = c.in_ok-id.id; period = c.in_ok-period.period; count = c.in_ok-count.count; execution = zeros.execution; parents = zeros.parents }) c.read_ranged-4.new.self.bytes.now c.read_ranged-4.new.self.at) c.empty.ensures
-    ∙ rw same (sym (then-read _ _ _ _ _ (sym c.in_ok-edition.ensures.step) ∙ then-read _ _ _ _ _ (id (goal.at.returns c).In_ok-id) ∙ then-read _ _ _ _ _ (period (goal.at.returns c).In_ok-period)
-    ∙ then-read _ _ _ _ _ (count (goal.at.returns c).In_ok-count)))
+    ∙ rw same (sym (then-read _ _ _ _ _ (sym c.in_ok-edition.ensures.step) ∙ then-read _ _ _ _ _ (id (goal.at-After-read_nodes c).In_ok-id) ∙ then-read _ _ _ _ _ (period (goal.at-After-read_nodes c).In_ok-period)
+    ∙ then-read _ _ _ _ _ (count (goal.at-After-read_nodes c).In_ok-count)))
+
+pub returns-in_err-read_nodes : goal.returns-in_err-read_nodes
+returns-in_err-read_nodes c = ap with_table (goes-out _ _ c.from_residual-in_err-read_nodes.ensures.1)
+    ∙ ap (on_outcome no_table (table_read c.read_nodes.new.table)) (sym c.in_err-read_nodes.was) ∙ nodes-so (goal.at.returns-in_err-read_nodes c).After-read_nodes
+
+pub returns : goal.returns
+returns c = ap (on_outcome no_table (table_read c.read_nodes.new.table)) (sym c.in_ok-read_nodes.was) ∙ nodes-so (goal.at.returns c).After-read_nodes
