@@ -61,7 +61,7 @@ fn note_table(
         boards::place_of(board, table.id),
         boards::place_of(board, 0),
     );
-    let planning = plans::plan_table(words, table, cost, place.and(Ok(())))?;
+    let planning = plans::plan_table(words, *table, cost, place.and(Ok(())))?;
     let at = place?;
     let row = row_of(words, table.id, table.count, planning);
     Ok(Change { at, row })

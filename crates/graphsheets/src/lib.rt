@@ -39,7 +39,7 @@ fn put_relaxed(page: &mut Page, table: &TaskTable)
     ensures { Puts page.old (on_table refused_line table_sheet (costed (relaxed table.now) sheet_cost)) page.new }
 {
     let mut words = [0u64; plans::WORDS_MAX];
-    match plans::plan_table(&mut words, table, 0, Ok(())) {
+    match plans::plan_table(&mut words, *table, 0, Ok(())) {
         Ok(planning) => {
             let relaxed = TaskTable {
                 period: 2 * planning.path,

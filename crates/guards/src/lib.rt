@@ -61,7 +61,7 @@ fn admit_table(
     );
     let later = place.and(Ok(()));
     let mut beside = [0u64; plans::WORDS_MAX];
-    let planning = plans::plan_table(&mut beside, table, cost, later)?;
+    let planning = plans::plan_table(&mut beside, *table, cost, later)?;
     let row = admissions::row_of(&beside, table.id, table.count, planning);
     let load = asking.load();
     let next = loaded(load, row);

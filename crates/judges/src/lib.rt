@@ -96,7 +96,7 @@ fn judge_table(
     ensures judged { IfOk result (Judged (costed table.now cost)) }
 {
     let mut own = [0u64; plans::WORDS_MAX];
-    let planning = plans::plan_table(&mut own, table, cost, Ok(()))?;
+    let planning = plans::plan_table(&mut own, *table, cost, Ok(()))?;
     let task = Task {
         table,
         cost,

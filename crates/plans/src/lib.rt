@@ -105,13 +105,13 @@ pub struct Planning {
 // A caller that has none gives Ok(()).
 pub fn plan_table(
     words: &mut [u64],
-    table: &TaskTable,
+    table: TaskTable,
     cost: u64,
     later: Result<(), Refusal>,
 ) -> Result<Planning, Refusal>
-    requires { Plannable (costed table.now cost) × (words_max ≤ length words.old) }
-    ensures words_after { record { answer = told result; lent = words.new } ≡ table_plan later words.old (costed table.now cost) }
-    ensures totalled { IfOk result (Totalled (costed table.now cost)) }
+    requires { Plannable (costed table cost) × (words_max ≤ length words.old) }
+    ensures words_after { record { answer = told result; lent = words.new } ≡ table_plan later words.old (costed table cost) }
+    ensures totalled { IfOk result (Totalled (costed table cost)) }
 {
     let n = table.count;
     let period = table.period;
@@ -142,7 +142,7 @@ fn plan_record(bytes: &[u8], words: &mut [u64], cost: u64) -> Result<u64, Refusa
 {
     before_reading(words.len(), cost)?;
     let table = records::read_table(bytes)?;
-    let planning = plan_table(words, &table, cost, Ok(()))?;
+    let planning = plan_table(words, table, cost, Ok(()))?;
     Ok(planning.words as u64)
 }
 

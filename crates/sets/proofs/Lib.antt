@@ -6,3 +6,4 @@ pub mod Rule
 pub mod Words
 pub mod Without
 pub mod Below
+mod Runs

@@ -50,12 +50,23 @@ pub fn all_below(n: usize) -> u64
     if n < 64 { (1 << n) - 1 } else { u64::MAX }
 }
 
-// The last member of a set that has one.
+// The last member of a set that has one. A `while`, and no `ilog2`: document 01 has "parents are walked by trailing zeros" (docs/DECISIONS.md, 28). A run of
+// neighbours is passed at a step: once the zeros below a run are filled, adding 1 leaves as many zeros as there are numbers up to the run's end.
 pub fn last_of(s: u64) -> usize
     requires { s ≡ 0 → ⊥ }
     ensures { Last result s }
 {
-    s.ilog2() as usize
+    let mut left = s;
+    let mut past: usize = 0;
+    while left != 0 {
+        let filled = left | (left - 1);
+        if filled == u64::MAX {
+            return 63;
+        }
+        past = u64::trailing_zeros(filled + 1) as usize;
+        left = left & (filled + 1);
+    }
+    past - 1
 }
 
 // The members of a set, from the first on: those that are left.

@@ -71,7 +71,7 @@ pub fn put_table(page: &mut Page, table: &TaskTable)
     ensures { Puts page.old (on_table refused_line table_sheet (costed table.now sheet_cost)) page.new }
 {
     let mut words = [0u64; plans::WORDS_MAX];
-    match plans::plan_table(&mut words, table, 0, Ok(())) {
+    match plans::plan_table(&mut words, *table, 0, Ok(())) {
         Ok(planning) => {
             let head = Head {
                 id: table.id,
