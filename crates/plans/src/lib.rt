@@ -115,11 +115,12 @@ pub fn plan_table(
 {
     let n = table.count;
     let period = table.period;
+    let parents = table.parents; // copied, since a struct whose field is lent is copied whole
     let mut execution = table.execution;
     tables::add_cost(&mut execution, n, cost);
     let mut trace = Trace::empty();
-    let swept = sweeps::sweep(&mut trace, &table.parents, &execution, n);
-    tested(&table.parents, swept, n, period, later)?;
+    let swept = sweeps::sweep(&mut trace, &parents, &execution, n);
+    tested(&parents, swept, n, period, later)?;
     let weighed = ways::weigh(&execution, n);
     let times = Times {
         period,
