@@ -28,6 +28,7 @@ impl Listing {
     }
 
     // One parent more, and the padded numbers up to it. One that repeats another is dropped, and says nothing of the order.
+    #[inline(always)]
     pub fn with_parent(self, parent: u64, padded: u64) -> Self
         requires { (parent < count_max) × (self.dropped < given_max) }
         ensures { (given : List ℕ) → self ≡ listing_of self.padded given → result ≡ listing_of padded (given ++ parent ∷ []) }

@@ -68,6 +68,8 @@ struct Reader<'a> {
 
 impl Reader<'_> {
     // Goes on behind a number that was found here, up to which so many are padded; its value.
+    // In line, as the next two: out of line a long record takes twice the time.
+    #[inline(always)]
     fn pass(&mut self, number: Number, padded: u64) -> u64
         requires { (self.old.spot.at + number.length ≤ length self.old.bytes.now) × (padded ≤ self.old.spot.at + number.length) }
         ensures bytes { self.new.bytes.now ≡ self.old.bytes.now }
@@ -82,6 +84,7 @@ impl Reader<'_> {
     }
 
     // The next number, in any form.
+    #[inline(always)]
     fn take_any_form(&mut self) -> Result<u64, Refusal>
         ensures bytes { self.new.bytes.now ≡ self.old.bytes.now }
         ensures step { step_to result self.new.spot ≡ any_form self.old.bytes.now self.old.spot }
@@ -95,6 +98,7 @@ impl Reader<'_> {
     }
 
     // The next number, and only then its range.
+    #[inline(always)]
     fn take_number(&mut self, broken: Reason, low: u64, high: u64) -> Result<u64, Refusal>
         ensures bytes { self.new.bytes.now ≡ self.old.bytes.now }
         ensures step { step_to result self.new.spot ≡ taken (number_of broken) low high self.old.bytes.now self.old.spot }
