@@ -303,6 +303,10 @@ fn alone_to_end(rt: &impl Print) {
     );
     let tight = noted(Board::empty(), b"\x01\x07\x09\x01\x05\x00", 0);
     to_end(rt, "5 in 9: no to the end on 1 core", &tight, 1, false);
+}
+
+// The listing alone, to its end.
+fn listing_to_end(rt: &impl Print) {
     let listing = noted(
         Board::empty(),
         b"\x01\x03\x06\x03\x03\x00\x01\x00\x01\x01\x01",
@@ -435,6 +439,7 @@ fn main(rt: HostRuntime) {
     cost_slips(&rt);
     cost_verdicts(&rt);
     alone_to_end(&rt);
+    listing_to_end(&rt);
     to_end_slips(&rt);
     guard_slips(&rt);
     other_slips(&rt);
