@@ -42,10 +42,11 @@ write_plan_rules words bytes id =
 abbrev pub Holds : (plan : List ℕ) (id : ℕ) (found : List ℕ) → Type 0
 Holds plan id found = plan_of plan ≡ PlanRead.read id found
 
--- these two; 0 and no words of a record that is refused
+-- the id of a plan record; 0 where it is refused
 abbrev pub id_in : (plan : List ℕ) → ℕ
 id_in plan = on_plan (λ _. 0) (λ id found. id) (plan_of plan)
 
+-- its words; none where it is refused
 abbrev pub found_in : (plan : List ℕ) → List ℕ
 found_in plan = on_plan (λ _. []) (λ id found. found) (plan_of plan)
 

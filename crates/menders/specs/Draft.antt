@@ -11,7 +11,6 @@ use Rattle.records.specs.Nodes.{with_node}
 use Rattle.records.specs.Reading.{headed}
 use Rattle.menders.specs.declared.Counts.{Counts}
 use Rattle.menders.specs.declared.Spot.{Spot}
-use Rattle.menders.specs.declared.Found.{Found}
 use Rattle.menders.specs.declared.Draft.{Draft}
 use Rattle.menders.specs.Taken.{then_taken, then_of, taken}
 use Rattle.menders.specs.Listed.{parent_list}
@@ -27,11 +26,6 @@ drawn t counts = record { outcome = Ok tt; table = t; counts = counts }
 -- "from any reader of a table, a table that is all zeros", and no counts
 abbrev pub undrawn : Refusal → Draft
 undrawn r = record { outcome = Err r; table = empty_table; counts = no_counts }
-
--- what an inner step returns, as a draft: the table with its counts, or the refusal
-abbrev pub drawn_from : Result Found Refusal → Draft
-drawn_from (Ok found) = drawn found.table found.counts
-drawn_from (Err r) = undrawn r
 
 -- "Nothing follows.": 9 stands at the "first such byte"
 unfoldable pub no_more : TaskTable → (reordered dropped : ℕ) → List ℕ → Spot → Draft

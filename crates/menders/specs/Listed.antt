@@ -4,7 +4,6 @@ use Rattle.refusals.specs.Numbers.{bad_parent}
 use Rattle.refusals.specs.declared.Refusal.{Refusal}
 use Rattle.menders.specs.declared.Spot.{Spot}
 use Rattle.menders.specs.Taken.{then_taken, taken}
-use Rattle.listings.specs.declared.Listing.{Listing}
 use Rattle.listings.specs.Lists.{given_max, list_set, reordered, dropped}
 
 -- a list's set, what is to be mended of it, and the spot after it
@@ -13,11 +12,6 @@ pub record Listed : Type 0 where
   pub reordered : ℕ
   pub dropped : ℕ
   pub spot : Spot
-
--- what the code returns, and the spot that it came to
-abbrev pub list_to : Result Listing Refusal → Spot → Result Listed Refusal
-list_to (Ok l) spot = Ok (record { set = l.set; reordered = l.reordered; dropped = l.dropped; spot = spot })
-list_to (Err r) spot = Err r
 
 -- a list that was read up to a spot: its set, and what is to be mended of it
 abbrev pub whole_list : List ℕ → Spot → Result Listed Refusal

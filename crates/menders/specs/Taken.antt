@@ -23,11 +23,6 @@ Step = Result Taken Refusal
 abbrev pub read : (value : ℕ) → Spot → Step
 read value spot = Ok (record { value = value; spot = spot })
 
--- what the code returns, and the spot that it came to
-abbrev pub step_to : Result ℕ Refusal → Spot → Step
-step_to (Ok value) spot = read value spot
-step_to (Err r) spot = Err r
-
 -- what was taken, and then `more` of its value and the spot after it; "a refusal goes straight out with its place"
 unfoldable pub then_taken : {A : Type 0} → (Refusal → A) → Step → (ℕ → Spot → A) → A
 then_taken out (Ok t) more = more t.value t.spot

@@ -4,11 +4,12 @@
 ghost use Rattle.std.specs.Prelude.{◌≡◌, ◌+◌, ◌≤◌, length};
 ghost use Rattle.refusals.specs.Numbers.{number_of};
 ghost use Rattle.tables.specs.Limits.{count_max};
-ghost use Rattle.menders.specs.Taken.{step_to, any_form, taken};
-ghost use Rattle.menders.specs.Listed.{list_to, parent_list};
-ghost use Rattle.menders.specs.Draft.{drawn_from, nodes_taken, draft_of};
+ghost use Rattle.menders.specs.Taken.{any_form, taken};
+ghost use Rattle.menders.specs.Listed.{parent_list};
+ghost use Rattle.menders.specs.Draft.{nodes_taken, draft_of};
 ghost use Rattle.menders.specs.Mending.{mending_of, mend_call};
 ghost use Rattle.menders.specs.Inner.Within.{Within};
+ghost use Rattle.menders.specs.Inner.Reader.{step_to, list_to, drawn_from};
 
 use listings::Listing;
 use numbers::{Fault, Number};

@@ -19,7 +19,8 @@ use Rattle.records.proofs.Cases.{then-read, then-refused}
 use Rattle.files.specs.File.{record_at, part_of}
 use Rattle.files.proofs.Walked.{Stands, stands}
 use Rattle.files.proofs.Walked.Stands.{here, over, cut, wide, thin}
-use Rattle.planchecks.specs.Pair.{on_second, on_pair, two_records}
+use Rattle.planchecks.specs.Pair.{on_second, on_pair}
+use Rattle.planchecks.specs.Inner.Pair.{two_records}
 
 -- a record that stands at a place lies inside the input
 pub record-inside : (input : List ℕ) (place : ℕ) {size begin : ℕ} → record_at input place ≡ read size begin → begin + size ≤ length input

@@ -1,2 +1,3 @@
 pub mod Pair
 pub mod Sheet
+pub mod Inner

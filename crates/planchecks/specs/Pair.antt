@@ -1,6 +1,5 @@
 -- The input of plancheck: "a task record and a plan record, each preceded by its length as in e)".
-use Rattle.std.specs.Prelude.{ℕ, ◌+◌, List, Result, Ok, Err, ltb, length}
-use Rattle.std.specs.Borrow.{Bor}
+use Rattle.std.specs.Prelude.{ℕ, ◌+◌, List, ltb, length}
 use Rattle.plain.specs.Pick.{pick}
 use Rattle.refusals.specs.Numbers.{bytes_follow}
 use Rattle.refusals.specs.declared.Refusal.{Refusal}
@@ -19,12 +18,3 @@ on_second refuse go input begin size =
 -- "a damaged length, or a record that runs past the input, is refused as in e)": the first record, and then the second
 unfoldable pub on_pair : {A : Type 0} → (Refusal → A) → (go : (bytes plan : List ℕ) → A) → (input : List ℕ) → A
 on_pair refuse go input = and_then refuse (record_at input 0) λ size begin. on_second refuse go input begin size
-
--- the two records, or the refusal
-abbrev pub two_records : (input : List ℕ) → Result (List ℕ × List ℕ) Refusal
-two_records input = on_pair Err (λ bytes plan. Ok (bytes, plan)) input
-
--- what the code hands out of them: parts of the input
-abbrev pub contents : Result (Bor (List ℕ) × Bor (List ℕ)) Refusal → Result (List ℕ × List ℕ) Refusal
-contents (Ok (bytes, plan)) = Ok (bytes.now, plan.now)
-contents (Err r) = Err r

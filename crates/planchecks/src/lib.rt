@@ -6,7 +6,8 @@ ghost use Rattle.texts.specs.Inner.Page.{Puts};
 ghost use Rattle.sheets.specs.Lines.{refused_line};
 ghost use Rattle.sheets.specs.Printed.{printed};
 ghost use Rattle.sheets.specs.Inner.Printable.{SheetRoom};
-ghost use Rattle.planchecks.specs.Pair.{on_pair, two_records, contents};
+ghost use Rattle.planchecks.specs.Pair.{on_pair};
+ghost use Rattle.planchecks.specs.Inner.Pair.{two_records, contents};
 ghost use Rattle.planchecks.specs.Sheet.{pair_text, check_sheet};
 
 use refusals::{Reason, Refusal};

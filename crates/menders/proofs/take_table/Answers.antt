@@ -6,7 +6,8 @@ use Rattle.refusals.specs.Numbers.{bad_count}
 use Rattle.refusals.proofs.Out.{goes-out}
 use Rattle.tables.specs.declared.TaskTable.{TaskTable}
 use Rattle.tables.specs.Limits.{count_max}
-use Rattle.menders.specs.Draft.{drawn_from, nodes_taken, draft_of}
+use Rattle.menders.specs.Draft.{nodes_taken, draft_of}
+use Rattle.menders.specs.Inner.Reader.{drawn_from}
 use Rattle.menders.proofs.Cases.{then-read, then-refused}
 use Rattle.menders.proofs.Inside.{passed, along}
 use Rattle.menders.proofs.take_table.Goals as goal

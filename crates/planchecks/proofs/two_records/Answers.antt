@@ -7,7 +7,8 @@ use lib.ListN.{length}
 use Rattle.std.specs.Prelude.{Result, Ok, Err}
 use Rattle.refusals.specs.declared.Refusal.{Refusal}
 use Rattle.refusals.proofs.Out.{goes-out}
-use Rattle.planchecks.specs.Pair.{two_records, on_second}
+use Rattle.planchecks.specs.Pair.{on_second}
+use Rattle.planchecks.specs.Inner.Pair.{two_records}
 use Rattle.planchecks.proofs.Pairs.{record-inside, pair-refused, pair-first, second-refused, second-followed, second-last}
 use Rattle.planchecks.proofs.two_records.Goals as goal
 use Rattle.planchecks.proofs.two_records.Goals.{In_ok-first, In_ok-second}

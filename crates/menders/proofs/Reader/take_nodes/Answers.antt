@@ -8,7 +8,8 @@ use Rattle.refusals.specs.declared.Refusal.{Refusal}
 use Rattle.refusals.proofs.Out.{goes-out}
 use Rattle.listings.specs.Lists.{given_max}
 use Rattle.menders.specs.Listed.{Listed}
-use Rattle.menders.specs.Draft.{drawn_from, undrawn}
+use Rattle.menders.specs.Draft.{undrawn}
+use Rattle.menders.specs.Inner.Reader.{drawn_from}
 use Rattle.menders.proofs.Cases.{then-read, then-refused, then-found, then-none, some_more, none_more, nodes-none, nodes-more}
 use Rattle.menders.proofs.Inside.{along, list-along, Few, parents-bounded}
 use Rattle.menders.proofs.Reader.take_nodes.Goals as goal

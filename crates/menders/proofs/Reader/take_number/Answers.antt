@@ -7,7 +7,7 @@ use Rattle.std.proofs.lemmas.Grind.{common_steps}
 use native.Mathlib.Omega.{arith}
 use Rattle.refusals.specs.declared.Refusal.{Refusal}
 use Rattle.refusals.proofs.Out.{goes-out}
-use Rattle.menders.specs.Taken.{step_to}
+use Rattle.menders.specs.Inner.Reader.{step_to}
 use Rattle.menders.proofs.Cases.{taken_refused, taken_out, taken_in}
 use Rattle.menders.proofs.Reader.take_number.Goals as goal
 

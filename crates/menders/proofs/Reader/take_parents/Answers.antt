@@ -12,7 +12,8 @@ use Rattle.refusals.proofs.Out.{goes-out}
 use Rattle.listings.specs.declared.Listing.{Listing}
 use Rattle.listings.specs.Lists.{given_max, firsts}
 use Rattle.listings.specs.Inner.Listing.{listing_of}
-use Rattle.menders.specs.Listed.{list_to, listed, parent_list}
+use Rattle.menders.specs.Listed.{listed, parent_list}
+use Rattle.menders.specs.Inner.Reader.{list_to}
 use Rattle.menders.proofs.Cases.{then-read, then-refused, listed-none, listed_more}
 use Rattle.menders.proofs.Inside.{Passed, passed, along}
 use Rattle.menders.proofs.Reader.take_parents.Goals as goal
