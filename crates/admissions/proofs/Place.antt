@@ -1,13 +1,15 @@
 -- Whether and where a row is placed is told by two places, that of its id and the lowest free one: no test of `placed` looks at another figure.
-use Rattle.std.proofs.Common.{◌≡◌, refl, ap, Bool, true, false, List, ℕ, ◌<◌, Some, None, arith}
-use Rattle.std.specs.Prelude.{Result, Ok, Err, ⊤}
+use Rattle.std.proofs.Common.{◌≡◌, refl, sym, ap, ◌∙◌, Bool, true, false, List, ℕ, ◌<◌, Some, None, arith}
+use Rattle.std.specs.Prelude.{Result, Ok, Err}
 use Rattle.std.specs.Result.{result_and}
 use lib.Dec.{ltb}
 use borrow.Author.Tests.{ltb-true}
 use Rattle.plain.specs.Pick.{pick}
 use Rattle.refusals.specs.Numbers.{id_stands, board_full}
 use Rattle.refusals.specs.declared.Refusal.{Refusal}
-use Rattle.refusals.specs.Refusal.{refusal}
+use Rattle.refusals.specs.declared.Answer.{Answer}
+use Rattle.refusals.specs.Refusal.{refusal, refusal_of}
+use Rattle.refusals.specs.Answer.{answered}
 use Rattle.boards.specs.declared.Row.{Row}
 use Rattle.boards.specs.declared.Change.{Change}
 use Rattle.boards.specs.Row.{rows_max}
@@ -37,6 +39,15 @@ module _ (rows : List Row) (row : Row) where
       by false true e = absurd (let z : ◌≡◌ {A = ℕ} 0 1 = cc in omega arith)
       by false false e = ap Err (let q : refusal board_full 0 ≡ r = cc in q)
 
+  -- a place is refused by 12 or 13, and neither is 0
+  pub place-number : {r : Refusal} → found ≡ Err r → r.number ≡ 0 → ⊥
+  place-number {r} = by (ltb (place_of row.id rows) rows_max) (ltb (free_at rows) rows_max)
+    where
+      by : (b c : Bool) → told b c ≡ Err r → r.number ≡ 0 → ⊥
+      by true c e z = let q : refusal id_stands 0 ≡ r = cc in let n = ap (λ (x : Refusal). x.number) q in omega arith
+      by false true e z = let y : ◌≡◌ {A = ℕ} 0 1 = cc in omega arith
+      by false false e z = let q : refusal board_full 0 ≡ r = cc in let n = ap (λ (x : Refusal). x.number) q in omega arith
+
   -- any other goes to the free place
   pub place-accepted : {a : ℕ} → found ≡ Ok a → (placed rows row ≡ Ok (record { at = a; row = row })) × (a ≡ free_at rows) × (a < rows_max)
   unfolding placed
@@ -49,13 +60,13 @@ module _ (rows : List Row) (row : Row) where
           (rw q, q, rw q (ltb-true (free_at rows) rows_max f))
       by false false f e = absurd (let z : ◌≡◌ {A = ℕ} 0 1 = cc in omega arith)
 
--- planning is told what the places tell, as a later rule's outcome
-abbrev pub later_of : Result ℕ Refusal → Result ⊤ Refusal
-later_of told = result_and told (Ok tt)
+-- planning is told what the places tell, as a later rule's answer
+abbrev pub later_of : Result ℕ Refusal → Answer
+later_of told = answered (result_and told (Ok 0))
 
-pub later-refused : (told : Result ℕ Refusal) {r : Refusal} → later_of told ≡ Err r → told ≡ Err r
-later-refused (Ok a) e = absurd (let z : ◌≡◌ {A = ℕ} 0 1 = cc in omega arith)
-later-refused (Err q) {r} e = ap Err (let s : q ≡ r = cc in s)
+pub later-refused : (told : Result ℕ Refusal) {later : Answer} → later ≡ later_of told → (later.refusal ≡ 0 → ⊥) → told ≡ Err (refusal_of later)
+later-refused (Ok a) so n = absurd (n (ap (λ (x : Answer). x.refusal) so))
+later-refused (Err r) so n = rw so
 
-pub later-accepted : {told : Result ℕ Refusal} {r : Refusal} → later_of told ≡ Ok tt → told ≡ Err r → ⊥
-later-accepted {told} {r} e f = let g : later_of (Err r) ≡ Ok tt = rw f at e in let z : ◌≡◌ {A = ℕ} 0 1 = cc in omega arith
+pub later-accepted : (rows : List Row) (row : Row) {told : Result ℕ Refusal} {later : Answer} {r : Refusal} → told ≡ found rows row → later ≡ later_of told → later.refusal ≡ 0 → told ≡ Err r → ⊥
+later-accepted rows row found-so so z e = place-number rows row (sym found-so ∙ e) (ap (λ (x : Result ℕ Refusal). (later_of x).refusal) (sym e) ∙ ap (λ (x : Answer). x.refusal) (sym so) ∙ z)

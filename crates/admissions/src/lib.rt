@@ -13,7 +13,7 @@ ghost use Rattle.admissions.specs.Inner.PlanIn.{PlanIn};
 
 use boards::{Board, Change, Row};
 use plans::Planning;
-use refusals::Refusal;
+use refusals::{Answer, Refusal};
 use tables::TaskTable;
 
 // How noting and admitting are refused where the board doesn't have 16 rows.
@@ -61,7 +61,8 @@ fn note_table(
         boards::place_of(board, table.id),
         boards::place_of(board, 0),
     );
-    let planning = plans::plan_table(words, *table, cost, place.and(Ok(())))?;
+    let later = Answer::from(place.and(Ok(0)));
+    let planning = plans::plan_table(words, *table, cost, later)?;
     let at = place?;
     let row = row_of(words, table.id, table.count, planning);
     Ok(Change { at, row })

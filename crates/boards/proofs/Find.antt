@@ -4,7 +4,8 @@ use mathlib.Core.Logic.{⊎_elim}
 use mathlib.Core.Bool.{Bool, true, false, cond}
 use mathlib.Core.List.{List, [], ◌∷◌}
 use Prim.Native.Nat.{ℕ, zero, suc, ◌≤◌, ◌<◌, zero-le, suc-le-suc}
-use native.Mathlib.Nat.{le_of_suc-le-suc, not-suc-le-zero}
+use native.Mathlib.Nat.{le_of_suc-le-suc, not-suc-le-zero, le_antisymm}
+use native.Mathlib.Omega.{arith}
 use native.Mathlib.Numerals.{one-add}
 use lib.Dec.{eqb, ltb}
 use lib.ListN.{length}
@@ -43,6 +44,16 @@ place-before id (r ∷ rs) (suc k) h e = pick-case (λ p. suc k < p → ⊥) (eq
 -- a row that has it is no lower
 pub place-at-most : (id : ℕ) (rows : List Row) (k : ℕ) → (row_at rows k).id ≡ id → place_of id rows ≤ k
 place-at-most id rows k e = ⊎_elim (λ (h : k < place_of id rows). absurd (place-before id rows k h e)) (λ (h : place_of id rows ≤ k). h) (lt-or-ge k (place_of id rows))
+
+-- so the lowest row that has it is the place
+pub place_is : (id : ℕ) (rows : List Row) (k : ℕ) → k < length rows → (row_at rows k).id ≡ id → ((i : ℕ) → i < k → (row_at rows i).id ≡ id → ⊥) → place_of id rows ≡ k
+place_is id rows k h e before =
+    let l = place-at-most id rows k e in
+    le_antisymm l (⊎_elim (λ (g : place_of id rows < k). absurd (before (place_of id rows) g (place-id id rows (omega arith)))) (λ (g : k ≤ place_of id rows). g) (lt-or-ge (place_of id rows) k))
+
+-- and where none has it the place is their number
+pub none-place : (id : ℕ) (rows : List Row) → ((k : ℕ) → k < length rows → (row_at rows k).id ≡ id → ⊥) → place_of id rows ≡ length rows
+none-place id rows f = le_antisymm (place-le id rows) (⊎_elim (λ (h : place_of id rows < length rows). absurd (f (place_of id rows) h (place-id id rows h))) (λ (h : length rows ≤ place_of id rows). h) (lt-or-ge (place_of id rows) (length rows)))
 
 -- which is what a search by position finds
 picked : {A : Type 0} (t : Bool) (a b : A) → pick t a b ≡ cond t a b

@@ -40,3 +40,7 @@ fit-sum-le r = pick-case (λ t. t ≡ true → r.sum ≤ count_max * density_max
 module _ (rows : List Row) (fit : densities_sound rows ≡ true) where
   pub fit-row-le : (k : ℕ) → k < rows_max → (row_at rows k).sum ≤ count_max * density_max
   fit-row-le k h = fit-sum-le (row_at rows k) (both_true (densities_fit (row_at rows k)) (is_new (λ i. (row_at rows i).id) k) (all_to-true rows_max _ fit k h)).0
+
+  -- and so many can be added up
+  pub fit-rows-le : (n : ℕ) → n ≤ rows_max → sum_to n (λ k. (row_at rows k).sum) ≤ n * (count_max * density_max)
+  fit-rows-le n h = sum_to-le n (count_max * density_max) _ (λ k l. fit-row-le k (omega arith))

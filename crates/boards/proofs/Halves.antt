@@ -59,3 +59,10 @@ halves rows h = rw (eq-eqb (length rows) rows_max h) (sym (all_to-same rows_max 
   where
     each : (k : ℕ) → k < rows_max → both (is_sound_row (row_at rows k)) (is_new (λ i. (row_at rows i).id) k) ≡ both (both (densities_fit (row_at rows k)) (is_new (λ i. (row_at rows i).id) k)) (times_fit (row_at rows k))
     each k l = rw (row-halves (row_at rows k)) (swapped (densities_fit (row_at rows k)) (times_fit (row_at rows k)) (is_new (λ i. (row_at rows i).id) k))
+
+-- as code that asks the second half only where the first holds has it
+pub first_holds : (rows : List Row) → length rows ≡ rows_max → {s : Bool} → densities_sound rows ≡ true → s ≡ times_sound rows → s ≡ is_sound rows
+first_holds rows h d t = rw (← (halves rows h), d) t
+
+pub first-fails : (rows : List Row) → length rows ≡ rows_max → {s : Bool} → densities_sound rows ≡ false → s ≡ false → s ≡ is_sound rows
+first-fails rows h d t = rw (← (halves rows h), d) t

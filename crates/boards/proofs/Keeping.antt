@@ -75,6 +75,15 @@ one-row {rows} s id z k l e = ⊎_elim
     (eq-or-lt_of_le (place-at-most id rows k e))
 
 module _ (rows : List Row) (row : Row) where
+  -- a refused placing changes nothing
+  pub placed-refused : ((answer_to (placed rows row)).refusal ≡ 0 → ⊥) → changed rows (placed rows row) ≡ rows
+  placed-refused = go (placing rows row)
+    where
+      go : {c : Result Change Refusal} → Placing rows row c → ((answer_to c).refusal ≡ 0 → ⊥) → changed rows c ≡ rows
+      go (stands h) n = refl
+      go (fills h f) n = absurd (n refl)
+      go (full h f) n = refl
+
   -- a standing row keeps the board sound
   pub placed-sound : Sound rows → Standing row → Sound (changed rows (placed rows row))
   placed-sound s t = go (placing rows row)

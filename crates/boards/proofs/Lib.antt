@@ -4,6 +4,7 @@ pub mod Fitting
 pub mod Halves
 pub mod Cases
 pub mod Keeping
+pub mod Sides
 pub mod Figures
 pub mod Fractions
 pub mod Nodes

@@ -93,7 +93,7 @@ module _ (cost : ℕ) (allowed : cost ≤ cost_max) where
     summed f most h = total-most (of_accepted f cost) most (accepted-most f most h) records
 
     -- a count by number
-    number-most : (k : ℕ) → at (tab numbers_max (λ k. total (refused_by k cost) records)) k ≤ length records
+    pub number-most : (k : ℕ) → at (tab numbers_max (λ k. total (refused_by k cost) records)) k ≤ length records
     number-most k = ⊎_elim
         (λ (h : k < numbers_max). rw (at-tab numbers_max (λ k. total (refused_by k cost) records) k h) (omega (arith, total-most (refused_by k cost) 1 (refused-most k) records)))
         (λ (h : numbers_max ≤ k). rw (at-tab-past numbers_max (λ k. total (refused_by k cost) records) k h) zero-le)

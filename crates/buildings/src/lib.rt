@@ -106,7 +106,7 @@ fn tally_of(bytes: &[u8], words: &mut [u64], cost: u64) -> Result<Sums, Refusal>
     ensures { result ≡ tally_of bytes.now cost }
 {
     let table = records::read_table(bytes)?;
-    let planning = plans::plan_table(words, table, cost, Ok(()))?;
+    let planning = plans::plan_table(words, table, cost, Answer::accepted(0))?;
     Ok(sums_of(words, table.period, planning))
 }
 

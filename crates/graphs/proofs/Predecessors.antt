@@ -10,6 +10,7 @@ use Rattle.refusals.specs.declared.Refusal.{Refusal}
 use Rattle.refusals.specs.Refusal.{refusal}
 use Rattle.tables.specs.declared.TaskTable.{TaskTable}
 use Rattle.tables.specs.Limits.{count_max}
+use Rattle.records.specs.Nodes.{with_node}
 use Rattle.records.specs.Reading.{headed}
 use Rattle.sets.specs.Member.{is_member}
 use Rattle.sets.specs.Inner.Put.{with_member}
@@ -17,11 +18,16 @@ use Rattle.listings.specs.Lists.{is_listed, list_set}
 use Rattle.listings.specs.declared.Listing.{Listing}
 use Rattle.listings.proofs.Lists.{member-listed, set-behind, met-none}
 use Rattle.graphwords.specs.declared.Number.{Number}
-use Rattle.graphs.specs.Expected.{predecessor_from}
+use Rattle.graphs.specs.Expected.{task_from, predecessor_from}
 use Rattle.graphs.specs.Expected.Due.{predecessor}
 use Rattle.graphs.specs.Graph.{no_graph}
 use Rattle.graphs.specs.Inner.Taken.{number_taken, reading_at}
 use Rattle.graphs.proofs.Steps.{step-out, Passed, passed}
+
+-- none is left
+pub next-none : (t : TaskTable) (i time left : ℕ) (given : List ℕ) → left ≤ 0 → predecessor_from t i time left given ≡ task_from (with_node t i time (list_set given)) (i + 1)
+next-none t i time zero given h = refl
+next-none t i time (suc left) given h = absurd (omega arith)
 
 module _ (text : List ℕ) (n : ℕ) (some : 1 ≤ n) (few : n ≤ count_max) (from : ℕ) where
   abbrev Is : Result Number Refusal → Type 0

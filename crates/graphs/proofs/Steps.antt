@@ -6,7 +6,7 @@ use mathlib.Core.Bool.{Bool, true, false, not}
 use mathlib.Core.List.{List, [], ◌∷◌}
 use native.Mathlib.Omega.{arith}
 use lib.ListN.{length}
-use borrow.Author.Tests.{lt-ltb}
+use borrow.Author.Tests.{lt-ltb, le-ltb}
 use Rattle.std.specs.Prelude.{Result, Ok, Err}
 use Rattle.std.specs.Result.{IsErrAnd}
 use Rattle.plain.specs.Pick.{pick}
@@ -25,7 +25,7 @@ use Rattle.graphwords.proofs.Capped.{capped-below, capped-high, capped-low}
 use Rattle.graphs.specs.declared.Graph.{Graph}
 use Rattle.graphs.specs.Expected.{Due, range, between, repeats, task_from, after}
 use Rattle.graphs.specs.Expected.Due.{number}
-use Rattle.graphs.specs.Expected.Next.{word}
+use Rattle.graphs.specs.Expected.Next.{word, done}
 use Rattle.graphs.specs.Graph.{no_graph, reading}
 use Rattle.graphs.specs.Inner.Taken.{found_taken, number_taken, then_taken, reading_at}
 use Rattle.graphs.proofs.Cases.{Between, tried, between_in, between-out}
@@ -57,9 +57,12 @@ found_inside text from n e = by (first_word text from) e
     by none e = found_none n e
     by (one place h) e = rw (found_end _ _ n e) (past-inside text place h)
 
--- task i is expected where it is one of the tasks
+-- task i is expected where it is one of the tasks, else nothing more
 pub task-left : (t : TaskTable) (i : ℕ) → i < t.count → task_from t i ≡ word (number t i)
 task-left t i h = rw (lt-ltb i t.count h)
+
+pub none_left : (t : TaskTable) (i : ℕ) → t.count ≤ i → task_from t i ≡ done t
+none_left t i h = rw (le-ltb i t.count h)
 
 module _ (text : List ℕ) (due : Due) where
   -- the first of the words was taken: its number, and what the reading comes to past it

@@ -28,9 +28,9 @@ const TASKS_MAX: u64 = TaskTable::COUNT_MAX - DUMMIES;
 
 // A task's time and the set of its predecessors.
 #[derive(Clone, Copy, Debug, PartialEq, Eq)]
-struct Task {
-    time: u64,
-    set: u64,
+pub struct Task {
+    pub time: u64,
+    pub set: u64,
 }
 
 // What a text comes to: its table, and whether a comment ended the reading.

@@ -1,14 +1,13 @@
 -- Twice a path is a period: some node runs, so that the path is above 0, and no path is longer than the work, which is at most 64 × 65,535. So 11
 -- can't occur, neither at the largest period nor at twice the path, and a table that is refused has a loop.
-use mathlib.Core.Path.{◌≡◌, refl, sym, ap, ◌∙◌}
+use mathlib.Core.Path.{◌≡◌, refl, sym, ap}
 use mathlib.Core.Bool.{Bool, true, false}
 use mathlib.Core.List.{List}
 use Prim.Native.Nat.{ℕ, ◌*◌, ◌≤◌}
 use native.Mathlib.Nat.{le_refl, le_trans}
 use native.Mathlib.Omega.{arith}
-use Rattle.std.specs.Prelude.{Ok, Err}
-use Rattle.refusals.specs.declared.Refusal.{Refusal}
-use Rattle.refusals.specs.Answer.{refused}
+use Rattle.refusals.specs.declared.Answer.{Answer}
+use Rattle.refusals.specs.Refusal.{refusal_of}
 use Rattle.tables.specs.declared.TaskTable.{TaskTable}
 use Rattle.tables.specs.Limits.{period_max, count_max, execution_max}
 use Rattle.tables.specs.Range.{InRange}
@@ -19,10 +18,9 @@ use Rattle.ways.specs.Closure.{loops}
 use Rattle.ways.proofs.Totals.{work-le}
 use Rattle.shares.proofs.Fair.{path-le}
 use Rattle.plans.specs.Diagram.{path}
-use Rattle.plans.specs.Calls.{on_table}
-use Rattle.plans.specs.Inner.Table.{table_plan}
+use Rattle.plans.specs.Calls.{on_table, unplanned, planned}
 use Rattle.plans.proofs.Table.{path-some, segmented}
-use Rattle.plans.proofs.Tests.{not-both, on-loop, on_fits, told-out, table-told}
+use Rattle.plans.proofs.Tests.{on-loop, on_fits}
 use Rattle.sheets.specs.Lines.{refused_line}
 use Rattle.sheets.specs.Printed.{table_sheet, sheet_cost}
 use Rattle.graphsheets.specs.Sheet.{relaxed}
@@ -64,12 +62,10 @@ module _ {t : TaskTable} (r : InRange t) where
     relaxed-ready = rw costed-0 relaxed-plain
 
   -- at the largest period only a loop refuses it, and that is the loop at any period
-  pub refused-loop : (words : List ℕ) {told : Refusal} {w : List ℕ} → t.period ≡ period_max → record { answer = refused told; lent = w } ≡ table_plan (Ok tt) words (costed t sheet_cost) → refused_line told ≡ on_table refused_line table_sheet (costed (relaxed t) sheet_cost)
-  refused-loop words {told} largest e = by (loops t.parents t.count) refl
+  pub refused-loop : (words : List ℕ) {a : Answer} → t.period ≡ period_max → a ≡ (on_table (unplanned words) (planned words) (costed t sheet_cost)).answer → (a.refusal ≡ 0 → ⊥)
+      → refused_line (refusal_of a) ≡ on_table refused_line table_sheet (costed (relaxed t) sheet_cost)
+  refused-loop words {a} largest answered n = by (loops t.parents t.count) refl
     where
-      by : (b : Bool) → loops t.parents t.count ≡ b → refused_line told ≡ on_table refused_line table_sheet (costed (relaxed t) sheet_cost)
-      by true l =
-          table-told refused_line table_sheet words (costed t sheet_cost) e
-          ∙ on-loop refused_line table_sheet (costed t sheet_cost) l
-          ∙ sym (on-loop refused_line table_sheet (costed (relaxed t) sheet_cost) l)
-      by false l = absurd (not-both (told-out (Ok tt) words (costed t sheet_cost) e).0 (on_fits Err (λ _. Ok tt) (costed t sheet_cost) l (omega (arith, path-free t, path-high l))))
+      by : (b : Bool) → loops t.parents t.count ≡ b → refused_line (refusal_of a) ≡ on_table refused_line table_sheet (costed (relaxed t) sheet_cost)
+      by true e = rw (answered, on-loop (unplanned words) (planned words) (costed t sheet_cost) e) (sym (on-loop refused_line table_sheet (costed (relaxed t) sheet_cost) e))
+      by false e = absurd (n (rw (answered, on_fits (unplanned words) (planned words) (costed t sheet_cost) e (omega (arith, path-free t, path-high e)))))

@@ -13,7 +13,7 @@ ghost use Rattle.sheets.specs.Inner.Printable.{SheetRoom};
 ghost use Rattle.graphsheets.specs.Sheet.{graph_in, relaxed, graph_sheet};
 
 use graphs::Graph;
-use refusals::Reason;
+use refusals::{Answer, Reason, Refusal};
 use tables::TaskTable;
 use texts::Page;
 
@@ -39,7 +39,7 @@ fn put_relaxed(page: &mut Page, table: &TaskTable)
     ensures { Puts page.old (on_table refused_line table_sheet (costed (relaxed table.now) sheet_cost)) page.new }
 {
     let mut words = [0u64; plans::WORDS_MAX];
-    match plans::plan_table(&mut words, *table, 0, Ok(())) {
+    match plans::plan_table(&mut words, *table, 0, Answer::accepted(0)) {
         Ok(planning) => {
             let relaxed = TaskTable {
                 period: 2 * planning.path,
@@ -47,7 +47,7 @@ fn put_relaxed(page: &mut Page, table: &TaskTable)
             };
             sheets::put_table(page, &relaxed);
         }
-        Err(refusal) => sheets::put_refusal(page, refusal),
+        Err(answer) => sheets::put_refusal(page, Refusal::told_by(answer)),
     }
 }
 

@@ -13,8 +13,8 @@ use Rattle.plain.specs.At.{at}
 use Rattle.graphwords.specs.declared.Fault.TheVariants.{Other}
 use Rattle.graphwords.specs.Words.{is_parting, letters_of, words_at}
 use Rattle.graphwords.specs.Decimal.{is_digit, is_decimal, decimal_after, decimal_of}
-use Rattle.graphwords.specs.Inner.Found.{capped, found_in, Begins}
-use Rattle.graphwords.proofs.Capped.{capped-digit}
+use Rattle.graphwords.specs.Inner.Found.{cap, capped, found_in, Begins}
+use Rattle.graphwords.proofs.Capped.{capped-most, capped-digit}
 use Rattle.graphwords.proofs.Words.{letters-parted, letters-more, from-here, words-here}
 
 module _ (text : List ℕ) (place : ℕ) where
@@ -33,7 +33,13 @@ module _ (text : List ℕ) (place : ℕ) where
     pub number : decimal_of (letters_of (drop place text)) ≡ decimal_after whole (letters_of (drop (place + passed) text))
     pub past : place + length (letters_of (drop place text)) ≡ place + passed + length (letters_of (drop (place + passed) text))
 
+  pub along-none : Along 0 0
+  along-none = let e : place + 0 ≡ place = omega arith in record { whole = 0; is = refl; decimal = rw e refl; number = rw e refl; past = rw e refl }
+
   module _ {passed value : ℕ} (a : Along passed value) where
+    pub along-most : value ≤ cap
+    along-most = omega (arith, a.is, capped-most a.whole)
+
     -- the next byte, or none
     next : at rest passed ≡ at text (place + passed)
     next = ap (λ (s : List ℕ). at s passed) (part-from place text) ∙ get_or-drop place text passed 0

@@ -18,6 +18,13 @@ capped-below v h = rw (lt-ltb v cap h)
 pub capped-past : (v : ℕ) → cap ≤ v → capped v ≡ cap
 capped-past v h = rw (le-ltb v cap h)
 
+pub capped-most : (v : ℕ) → capped v ≤ cap
+capped-most v = by (lt-or-ge v cap)
+  where
+    by : (v < cap) ⊎ (cap ≤ v) → capped v ≤ cap
+    by (inl h) = omega (arith, capped-below v h)
+    by (inr h) = omega (arith, capped-past v h)
+
 -- a digit more
 pub capped-digit : (v d : ℕ) → capped (10 * capped v + d) ≡ capped (10 * v + d)
 capped-digit v d = by (lt-or-ge v cap)

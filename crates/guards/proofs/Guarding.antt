@@ -7,6 +7,7 @@ use Rattle.plain.specs.Pick.{pick}
 use Rattle.plain.proofs.Sums.{sum-changed, max-changed}
 use Rattle.refusals.specs.Numbers.{verdict_no}
 use Rattle.refusals.specs.declared.Refusal.{Refusal}
+use Rattle.refusals.specs.declared.Answer.{Answer}
 use Rattle.refusals.specs.InOrder.{in_order}
 use Rattle.refusals.specs.Refusal.{refusal, on_outcome}
 use Rattle.tables.specs.declared.TaskTable.{TaskTable}
@@ -23,7 +24,7 @@ use Rattle.boards.specs.Change.{before_asking}
 use Rattle.boards.proofs.Keeping.{others-kept, row_written, place-free, placed-sound}
 use Rattle.admissions.specs.Admission.{Admission, row_of, not_admitted}
 use Rattle.guards.specs.Guarded.{guarded, guarded_entry, admission}
-use Rattle.admissions.proofs.Place.{found, place-accepted, later_of}
+use Rattle.admissions.proofs.Place.{found, place-accepted, later_of, later-accepted}
 use Rattle.admissions.proofs.Row.{row-standing}
 use Rattle.admissions.proofs.Tests.{stays_out, goes_in}
 
@@ -48,9 +49,9 @@ abbrev pub told : Bool → Result ⊤ Refusal
 told says = pick says (Ok tt) (Err (refusal verdict_no 0))
 
 -- a place was told where planning goes on
-pub later-told : (told : Result ℕ Refusal) → later_of told ≡ Ok tt → (a : ℕ) × (told ≡ Ok a)
-later-told (Ok a) e = (a, refl)
-later-told (Err r) e = absurd (let z : ◌≡◌ {A = ℕ} 0 1 = cc in omega arith)
+pub later-told : (rows : List Row) (row : Row) (told : Result ℕ Refusal) {later : Answer} → told ≡ found rows row → later ≡ later_of told → later.refusal ≡ 0 → (a : ℕ) × (told ≡ Ok a)
+later-told rows row (Ok a) found-so so z = (a, refl)
+later-told rows row (Err r) found-so so z = absurd (later-accepted rows row found-so so z refl)
 
 -- a task that has a plan, by what the two places tell
 module _ (rows : List Row) (words : List ℕ) (cores : ℕ) (t : TaskTable) {place : Result ℕ Refusal} (found-so : place ≡ found rows (row_of t)) where

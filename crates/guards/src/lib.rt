@@ -17,7 +17,7 @@ ghost use Rattle.admissions.specs.Admission.{not_admitted};
 ghost use Rattle.guards.specs.Guarded.{guarded_entry, admission};
 
 use boards::{Asking, Board, Change, Load, Row};
-use refusals::{Reason, Refusal};
+use refusals::{Answer, Reason, Refusal};
 use tables::{MILLION, TaskTable};
 
 // S and M with one more row: a free row has 0 for both, so the task's own are put beside them.
@@ -59,7 +59,7 @@ fn admit_table(
         boards::place_of(board, table.id),
         boards::place_of(board, 0),
     );
-    let later = place.and(Ok(()));
+    let later = Answer::from(place.and(Ok(0)));
     let mut beside = [0u64; plans::WORDS_MAX];
     let planning = plans::plan_table(&mut beside, *table, cost, later)?;
     let row = admissions::row_of(&beside, table.id, table.count, planning);

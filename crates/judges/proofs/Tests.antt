@@ -1,15 +1,18 @@
 -- The tests of the judge's functions are those of its definition, each in its place.
 use Rattle.std.specs.Prelude.{Result, Err, ⊤}
-use mathlib.Core.Path.{◌≡◌, refl, ap, ◌∙◌}
-use mathlib.Core.Bool.{true, false}
+use mathlib.Core.Path.{◌≡◌, refl, sym, ap, ◌∙◌}
+use mathlib.Core.Bool.{Bool, true, false}
 use mathlib.Core.List.{List}
 use Prim.Native.Nat.{ℕ, ◌≤◌, ◌<◌}
+use lib.Dec.{eqb}
 use lib.ListN.{length}
 use native.Mathlib.Omega.{arith}
-use borrow.Author.Tests.{eq-eqb, ne_eqb, lt-ltb, le-ltb}
+use borrow.Author.Tests.{eqb-false, eq-eqb, ne_eqb, lt-ltb, le-ltb}
 use Rattle.plain.specs.At.{at}
+use Rattle.plain.specs.Pick.{pick}
 use Rattle.refusals.specs.Numbers.{few_words, bad_plan, broken_rule, high_cost}
 use Rattle.refusals.specs.declared.Refusal.{Refusal}
+use Rattle.refusals.specs.declared.Answer.{Answer}
 use Rattle.refusals.specs.Refusal.{refusal}
 use Rattle.tables.specs.declared.TaskTable.{TaskTable}
 use Rattle.tables.specs.Limits.{cost_max}
@@ -19,7 +22,7 @@ use Rattle.plans.proofs.Tests.{not-both}
 use Rattle.plans.proofs.Cases.{Before, before}
 use Rattle.plans.proofs.Cases.Before.{dear, few, reads}
 use Rattle.planreaders.specs.Plan.{on_plan, plan_of}
-use Rattle.planreaders.specs.Reading.{unread, filled}
+use Rattle.planreaders.specs.Reading.{filled_with, unread, filled}
 use Rattle.trials.specs.declared.Rule.{Rule}
 use Rattle.trials.specs.declared.Rule.TheVariants.{OverFits, SameCut, SharedOut, Summed, Followed, Halved, Thinned, Rounded}
 use Rattle.trials.specs.Told.{number_of}
@@ -50,6 +53,28 @@ module _ (words : List ℕ) (t : TaskTable) (id : ℕ) (plan : List ℕ) where
       unfolding judged
       is-kept z = rw (of, ← is, eq-eqb k 0 z)
 
+  -- a refusal leaves the words as they were, an acceptance fills them
+  module _ {a : Answer} (is : a ≡ (judged words t id plan).answer) where
+    pub judged-out : (a.refusal ≡ 0 → ⊥) → record { answer = a; lent = words } ≡ judged words t id plan
+    unfolding judged
+    judged-out n = by (is_of t id plan) (eqb (broken_of t plan) 0) is
+      where
+        by : (b c : Bool) → a ≡ (pick b (pick c (filled words id plan) (unread words (refusal broken_rule (broken_of t plan)))) (unread words (refusal bad_plan 0))).answer →
+            record { answer = a; lent = words } ≡ pick b (pick c (filled words id plan) (unread words (refusal broken_rule (broken_of t plan)))) (unread words (refusal bad_plan 0))
+        by true true e = absurd (n (ap (λ (x : Answer). x.refusal) e))
+        by true false e = rw e
+        by false c e = rw e
+
+    pub judged-in : a.refusal ≡ 0 → record { answer = a; lent = filled_with plan words } ≡ judged words t id plan
+    unfolding judged
+    judged-in z = by (is_of t id plan) (eqb (broken_of t plan) 0) is
+      where
+        by : (b c : Bool) → a ≡ (pick b (pick c (filled words id plan) (unread words (refusal broken_rule (broken_of t plan)))) (unread words (refusal bad_plan 0))).answer →
+            record { answer = a; lent = filled_with plan words } ≡ pick b (pick c (filled words id plan) (unread words (refusal broken_rule (broken_of t plan)))) (unread words (refusal bad_plan 0))
+        by true true e = rw e
+        by true false e = absurd (eqb-false broken_rule 0 refl (sym (ap (λ (x : Answer). x.refusal) e) ∙ z))
+        by false c e = absurd (eqb-false bad_plan 0 refl (sym (ap (λ (x : Answer). x.refusal) e) ∙ z))
+
 -- no rule is numbered 0
 pub number-some : (rule : Rule) → number_of rule ≡ 0 → ⊥
 number-some OverFits e = omega arith
@@ -70,6 +95,15 @@ module _ (plan words : List ℕ) (t : TaskTable) where
   pub words-enough : words_max ≤ length words → judged_for plan words t ≡ on_plan (unread words) (judged words t) (plan_of plan)
   unfolding judged_for
   words-enough h = rw (le-ltb (length words) words_max h)
+
+-- no refusal before the reading is told as an acceptance
+pub before-some : (words cost : ℕ) (r : Refusal) → before_reading words cost ≡ Err r → r.number ≡ 0 → ⊥
+before-some words cost r = by (before words cost)
+  where
+    by : {o : Result ⊤ Refusal} → Before words cost o → o ≡ Err r → r.number ≡ 0 → ⊥
+    by (dear h) e z = let q : refusal high_cost 0 ≡ r = cc in omega (arith, ap (λ (x : Refusal). x.number) q)
+    by (few c h) e z = let q : refusal few_words 0 ≡ r = cc in omega (arith, ap (λ (x : Refusal). x.number) q)
+    by (reads c h) e z = not-both e refl
 
 -- a cost above its limit, and within
 module _ (bytes plan words : List ℕ) (cost : ℕ) where

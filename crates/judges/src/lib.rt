@@ -13,7 +13,7 @@ ghost use Rattle.trials.specs.Told as trial;
 ghost use Rattle.judges.specs.Judging.{broken_of, judged, judged_for, judge_call};
 ghost use Rattle.judges.specs.Inner.Judged.{OwnIn, PlanShaped, Judged, told};
 
-use refusals::{Reason, Refusal};
+use refusals::{Answer, Reason, Refusal};
 use tables::TaskTable;
 use trials::Rule;
 
@@ -66,7 +66,7 @@ impl Task<'_> {
         if let Some(rule) = self.broken_rule(plan) {
             return Err(Reason::BrokenRule.at(rule.number() as usize));
         }
-        words[..plan.len()].copy_from_slice(plan);
+        planreaders::copy_words(plan, plan.len(), words);
         Ok(id)
     }
 
@@ -96,7 +96,7 @@ fn judge_table(
     ensures judged { IfOk result (Judged (costed table.now cost)) }
 {
     let mut own = [0u64; plans::WORDS_MAX];
-    let planning = plans::plan_table(&mut own, *table, cost, Ok(()))?;
+    let planning = plans::plan_table(&mut own, *table, cost, Answer::accepted(0))?;
     let task = Task {
         table,
         cost,

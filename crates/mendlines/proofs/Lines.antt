@@ -25,7 +25,7 @@ line-refusal m n = rw (ne_eqb _ _ n)
 counts-size : (counts : Counts) → length (counts_line counts) ≤ 88
 counts-size counts = line-size _
 
-counts-fit : (counts : Counts) → length (counts_line counts) ≤ sheet_max
+pub counts-fit : (counts : Counts) → length (counts_line counts) ≤ sheet_max
 counts-fit counts = omega (arith, counts-size counts)
 
 pub line-fits : (m : Mending) → length (mend_line m) ≤ sheet_max

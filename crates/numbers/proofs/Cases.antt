@@ -1,14 +1,19 @@
 -- A number case by case: each test that its reader makes on the bytes picks one clause of the definition.
 use Prim.Native.Nat.{ℕ, zero, suc, ◌-◌, ◌≤◌, ◌<◌}
 use mathlib.Core.Path.{◌≡◌, refl}
+use mathlib.Core.Logic.{◌⊎◌, inl, inr}
+use mathlib.Core.Bool.{Bool, true, false}
 use mathlib.Core.List.{List, [], ◌∷◌}
 use native.Mathlib.Omega.{arith}
-use Rattle.std.specs.Prelude.{Ok, Err}
+use Rattle.std.specs.Prelude.{Result, Ok, Err}
 use lib.ListN.{length, take, drop}
-use borrow.Author.Tests.{lt-ltb, le-ltb, eq-eqb, ne_eqb}
+use lib.Dec.{ltb}
+use borrow.Author.Tests.{lt-ltb, le-ltb, ltb-false, eq-eqb, ne_eqb}
 use Rattle.plain.specs.At.{at}
+use Rattle.plain.specs.Pick.{pick}
 use Rattle.plain.proofs.Lists.{part-from}
 use Rattle.numbers.specs.declared.Number.{Number}
+use Rattle.numbers.specs.declared.Fault.{Fault}
 use Rattle.numbers.specs.declared.Fault.TheVariants.{Ended, TooLong, NotShortest}
 use Rattle.numbers.specs.Number.{before, joined, number, worth}
 
@@ -34,6 +39,27 @@ not_last more [] z h l = absurd (omega arith)
 not_last zero (b ∷ s) z h l = rw (le-ltb b 128 l)
 not_last (suc more) (b ∷ s) z h l = absurd (omega arith)
 
+-- one byte decides, unless more are needed
+pub decided : (more : ℕ) (s : List ℕ) (r : Result Number Fault) → r ≡ number 0 s → (r ≡ Err TooLong → ⊥) → r ≡ number more s
+unfolding number
+decided more [] r e h = e
+decided zero (b ∷ s) r e h = e
+decided (suc more) (b ∷ s) r e h = by (ltb b 128) e
+  where
+    by : (t : Bool) → r ≡ pick t (Ok (worth b 1)) (Err TooLong) → r ≡ pick t (Ok (worth b 1)) (before b (number more s))
+    by true d = d
+    by false d = absurd (h d)
+
+-- more are needed: the first byte has its top bit set
+pub needs-more : (s : List ℕ) → number 0 s ≡ Err TooLong → (0 < length s) × (128 ≤ at s 0)
+unfolding number
+needs-more [] e = clash (cc)
+needs-more (b ∷ s) e = (omega arith, by (ltb b 128) refl e)
+  where
+    by : (t : Bool) → ltb b 128 ≡ t → pick {A = Result Number Fault} t (Ok (worth b 1)) (Err TooLong) ≡ Err TooLong → 128 ≤ b
+    by true q e = clash (cc)
+    by false q e = ltb-false b 128 q
+
 -- then the number is that byte before what comes after it
 pub follows : (more : ℕ) (s : List ℕ) → 0 < more → 0 < length s → 128 ≤ at s 0 →
     number more s ≡ before (at s 0) (number (more - 1) (take (length s - 1) (drop 1 s)))
@@ -50,6 +76,12 @@ before_none b r e = simp (eq-eqb _ _ e)
 pub before_some : (b : ℕ) (r : Number) → (r.value ≡ 0 → ⊥) → before b (Ok r) ≡ Ok (joined b r)
 unfolding before
 before_some b r d = simp (ne_eqb _ _ d)
+
+-- a rest that ended or was too long stays so
+pub before-cut : (b : ℕ) (r : Result Number Fault) → (r ≡ Err Ended) ⊎ (r ≡ Err TooLong) → before b r ≡ r
+unfolding before
+before-cut b r (inl h) = rw h
+before-cut b r (inr h) = rw h
 
 -- a byte with its top bit set before a number that is not 0; so a number of two bytes, and of three
 pub longer : (more b : ℕ) (s : List ℕ) (r : Number) → 128 ≤ b → number more s ≡ Ok r → 0 < r.value → number (suc more) (b ∷ s) ≡ Ok (joined b r)

@@ -90,12 +90,13 @@ fn read_long(rest: &[u8]) -> Result<Number, Fault>
 }
 
 // A record's number at the front of rest. Nearly all are one byte, so that is tried first, in a function that is small enough to be inlined.
-#[tactic(auto, using(crate::proofs::Cases::last))]
+#[tactic(auto, using(crate::proofs::Cases::none, crate::proofs::Cases::last))]
 #[inline(always)]
 pub fn read_number(rest: &[u8]) -> Result<Number, Fault>
     ensures { result ≡ number record_more rest.now }
 {
     match *rest {
+        [] => Err(Fault::Ended),
         [byte @ 0..=127, ..] => Ok(one_byte(byte)),
         _ => read_long(rest),
     }

@@ -4,8 +4,9 @@ use mathlib.Core.Path.{◌≡◌, refl, sym, ap, ap₂, ◌∙◌}
 use mathlib.Core.List.{List, [], ◌∷◌, ◌++◌, append_assoc, append-nil}
 use native.Mathlib.Omega.{arith}
 use lib.ListN.{length, take, drop, set, length-append, length-drop, length-take, drop_of_length-le, take-append-drop}
-use lib.Seq.{drop-cons, append_snoc, set-append_seam, take_at, drop_at, drop-drop, length-take-le}
+use lib.Seq.{drop-cons, append_snoc, set-append_seam, take_at, drop_at, drop-drop, length-take-le, take-suc}
 use borrow.Rule.Slice.PartMut.{put_mid}
+use Rattle.plain.specs.At.{at}
 use Rattle.plain.proofs.Lists.{part-from, put-from}
 use Rattle.planreaders.specs.Reading.{filled_with}
 
@@ -21,6 +22,15 @@ fill_more vs w v h =
     ∙ set-append_seam vs _ _ v
     ∙ sym (append_snoc vs v (drop (suc (length vs)) w))
     ∙ ap (λ (k : ℕ). (vs ++ v ∷ []) ++ drop k w) (sym size)
+
+-- one that is copied
+pub copy_more : (from w : List ℕ) (i : ℕ) → i < length from → i < length w → set (filled_with (take i from) w) i (at from i) ≡ filled_with (take (i + 1) from) w
+copy_more from w i h l =
+    let size = length-take-le i from (omega arith) in
+    let e : i + 1 ≡ suc i = omega arith in
+    ap (λ (k : ℕ). set (filled_with (take i from) w) k (at from i)) (sym size)
+    ∙ fill_more (take i from) w (at from i) (omega arith)
+    ∙ ap (λ (x : List ℕ). filled_with x w) (sym (take-suc from i 0 h) ∙ ap (λ (k : ℕ). take k from) (sym e))
 
 -- a part from the front, filled whole, with the words behind it
 pub fill-part : (vs w : List ℕ) (size : ℕ) → length vs ≡ size → filled_with vs (take size w) ++ drop size w ≡ filled_with vs w

@@ -4,13 +4,15 @@ use mathlib.Core.Path.{◌≡◌, refl, sym, ap, ◌∙◌}
 use mathlib.Core.Bool.{Bool, true, false}
 use mathlib.Core.List.{List}
 use Prim.Native.Nat.{ℕ, ◌≤◌, ◌<◌}
+use native.Mathlib.Decide.{ℕ_discrete}
 use native.Mathlib.Omega.{arith}
-use borrow.Author.Tests.{lt-ltb, le-ltb, ltb-false}
-use lib.Dec.{ltb}
+use borrow.Author.Tests.{lt-ltb, le-ltb, ltb-false, eq-eqb, ne_eqb, eqb-true, eqb-false}
+use lib.Dec.{eqb, ltb}
 use lib.ListN.{length}
 use Rattle.plain.specs.Pick.{pick}
 use Rattle.refusals.specs.Numbers.{long_path}
 use Rattle.refusals.specs.declared.Refusal.{Refusal}
+use Rattle.refusals.specs.declared.Answer.{Answer}
 use Rattle.refusals.specs.Refusal.{refusal, refusal_of}
 use Rattle.refusals.specs.Answer.{accepted, refused}
 use Rattle.refusals.specs.After.{After}
@@ -21,11 +23,11 @@ use Rattle.records.specs.declared.Reading.{Reading}
 use Rattle.records.specs.Nodes.{with_table}
 use Rattle.records.specs.Reading.{reading_of}
 use Rattle.ways.specs.Closure.{loops}
-use Rattle.plans.specs.Diagram.{path}
-use Rattle.plans.specs.declared.Planning.{Planning}
-use Rattle.plans.specs.Words.{words_max, written}
+use Rattle.plans.specs.Diagram.{path, segment_count}
+use Rattle.plans.specs.Words.{word_count, words_max, written}
 use Rattle.plans.specs.Calls.{before_reading, loop_in, on_table, task_of, on_task, unplanned, planned, plan_call}
-use Rattle.plans.specs.Inner.Drawn.{outcome_of, tested, Totalled}
+use Rattle.plans.specs.Inner.Planned.{Planned}
+use Rattle.plans.specs.Inner.Drawn.{outcome_of, passed, tested}
 use Rattle.plans.specs.Inner.Table.{unless_later, table_plan}
 use Rattle.plans.proofs.Cases.{Before, before}
 use Rattle.plans.proofs.Cases.Before.{dear, few, reads}
@@ -55,10 +57,19 @@ module _ {A : Type 0} (refuse : Refusal → A) (go : TaskTable → A) (t : TaskT
   unfolding on_table
   table-refused {r} = by (loops t.parents t.count) (ltb t.period (path t))
     where
-      by : (b c : Bool) → tested b (loop_in t) c (Ok tt) ≡ Err r → pick b (refuse (loop_in t)) (pick c (refuse (refusal long_path 0)) (go t)) ≡ refuse r
+      by : (b c : Bool) → ◌≡◌ {A = Result ⊤ Refusal} (pick b (Err (loop_in t)) (pick c (Err (refusal long_path 0)) (Ok tt))) (Err r) → pick b (refuse (loop_in t)) (pick c (refuse (refusal long_path 0)) (go t)) ≡ refuse r
       by true c e = let same : r ≡ loop_in t = cc in rw same
       by false true e = let same : r ≡ refusal long_path 0 = cc in rw same
       by false false e = absurd (not-both e refl)
+
+  pub table-accepted : outcome_of t ≡ Ok tt → on_table refuse go t ≡ go t
+  unfolding on_table
+  table-accepted = by (loops t.parents t.count) (ltb t.period (path t))
+    where
+      by : (b c : Bool) → ◌≡◌ {A = Result ⊤ Refusal} (pick b (Err (loop_in t)) (pick c (Err (refusal long_path 0)) (Ok tt))) (Ok tt) → pick b (refuse (loop_in t)) (pick c (refuse (refusal long_path 0)) (go t)) ≡ go t
+      by true c e = absurd (not-both refl e)
+      by false true e = absurd (not-both refl e)
+      by false false e = refl
 
 -- a record, by the outcome of its reading
 module _ {A : Type 0} (refuse : Refusal → A) (go : TaskTable → A) (bytes : List ℕ) (cost : ℕ) where
@@ -97,10 +108,33 @@ ready words cost = by (before words cost)
     by (few c h) e = absurd (not-both refl e)
     by (reads c w) e = (c, w)
 
--- the tests after the run: fewer nodes done than there are tell the loop, and without one the path told is the table's
-module _ (t : TaskTable) (later : Result ⊤ Refusal) where
-  pub tested-so : (done P : ℕ) → loops t.parents t.count ≡ ltb done t.count → (loops t.parents t.count ≡ false → P ≡ path t)
-      → tested (ltb done t.count) (loop_in t) (ltb t.period P) later ≡ on_table Err (λ _. later) t
+-- a table whose planning is refused goes by that refusal
+pub table-told : {A : Type 0} (refuse : Refusal → A) (go : TaskTable → A) (words : List ℕ) (t : TaskTable) {a : Answer} →
+    a ≡ (on_table (unplanned words) (planned words) t).answer → (a.refusal ≡ 0 → ⊥) → refuse (refusal_of a) ≡ on_table refuse go t
+unfolding on_table
+table-told refuse go words t {a} answered n = by (loops t.parents t.count) (ltb t.period (path t)) answered
+  where
+    by : (b c : Bool) → a ≡ (pick b (unplanned words (loop_in t)) (pick c (unplanned words (refusal long_path 0)) (planned words t))).answer
+        → refuse (refusal_of a) ≡ pick b (refuse (loop_in t)) (pick c (refuse (refusal long_path 0)) (go t))
+    by true c e = rw e
+    by false true e = rw e
+    by false false e = absurd (n (ap (λ (x : Answer). x.refusal) e))
+
+-- ---- the tests after the run
+module _ (t : TaskTable) (later : Answer) where
+  -- what they come to
+  abbrev pub rules : Result ⊤ Answer
+  rules = on_table (λ r. Err (refused r)) (λ _. passed later) t
+
+  -- what three tests pick, and what they leave of the words
+  abbrev pub picked : (round long none : Bool) → Result ⊤ Answer
+  picked round long none = pick round (Err (refused (loop_in t))) (pick long (Err (refused (refusal long_path 0))) (pick none (Ok tt) (Err later)))
+
+  abbrev leaves : (round long none : Bool) → List ℕ → After (List ℕ)
+  leaves round long none words = pick round (unplanned words (loop_in t)) (pick long (unplanned words (refusal long_path 0)) (pick none (planned words t) (record { answer = later; lent = words })))
+
+  -- fewer nodes done than there are tell the loop, and without one the path told is the table's
+  pub tested-so : (done P : ℕ) → loops t.parents t.count ≡ ltb done t.count → (loops t.parents t.count ≡ false → P ≡ path t) → tested (ltb done t.count) (loop_in t) (ltb t.period P) later ≡ rules
   unfolding on_table
   tested-so done P told path-is = ap (λ (b : Bool). tested b (loop_in t) (ltb t.period P) later) (sym told) ∙ by (loops t.parents t.count) refl
     where
@@ -109,51 +143,61 @@ module _ (t : TaskTable) (later : Result ⊤ Refusal) where
       by false e = rw (path-is e)
 
   -- a refusal goes out, and the words stay as they were
-  pub rules-refuse : {r : Refusal} (words : List ℕ) → on_table Err (λ _. later) t ≡ Err r → table_plan later words t ≡ unplanned words r
+  pub rules-refuse : {a : Answer} (words : List ℕ) → rules ≡ Err a → (a.refusal ≡ 0 → ⊥) × (table_plan later words t ≡ record { answer = a; lent = words })
   unfolding on_table
-  rules-refuse {r} words = by (loops t.parents t.count) (ltb t.period (path t)) later
+  rules-refuse {a} words = by (loops t.parents t.count) (ltb t.period (path t)) (eqb later.refusal 0) refl
     where
-      by : (b c : Bool) (l : Result ⊤ Refusal) → tested b (loop_in t) c l ≡ Err r → pick b (unplanned words (loop_in t)) (pick c (unplanned words (refusal long_path 0)) (unless_later l words t)) ≡ unplanned words r
-      by true c l e = let same : loop_in t ≡ r = cc in ap (unplanned words) same
-      by false true l e = let same : refusal long_path 0 ≡ r = cc in ap (unplanned words) same
-      by false false (Ok done) e = absurd cc
-      by false false (Err told) e = let same : told ≡ r = cc in ap (unplanned words) same
+      goes : {told : Answer} → (told.refusal ≡ 0 → ⊥) → ◌≡◌ {A = Result ⊤ Answer} (Err told) (Err a) → (a.refusal ≡ 0 → ⊥) × (◌≡◌ {A = After (List ℕ)} (record { answer = told; lent = words }) (record { answer = a; lent = words }))
+      goes {told} n e = let same : told ≡ a = cc in (rw same at n, λ i. record { answer = same i; lent = words })
+
+      by : (b c z : Bool) → eqb later.refusal 0 ≡ z → picked b c z ≡ Err a → (a.refusal ≡ 0 → ⊥) × (leaves b c z words ≡ record { answer = a; lent = words })
+      by true c z l e = goes (λ n. omega arith) e
+      by false true z l e = goes (λ n. omega arith) e
+      by false false true l e = absurd cc
+      by false false false l e = goes (eqb-false later.refusal 0 l) e
 
   -- no refusal: there is no loop, the path fits, and the later rules refuse nothing
-  pub rules-pass : on_table Err (λ _. later) t ≡ Ok tt → (loops t.parents t.count ≡ false) × (path t ≤ t.period) × (later ≡ Ok tt)
+  pub rules-pass : rules ≡ Ok tt → (loops t.parents t.count ≡ false) × (path t ≤ t.period) × (later.refusal ≡ 0)
   unfolding on_table
-  rules-pass = by (loops t.parents t.count) (ltb t.period (path t)) refl refl
+  rules-pass = by (loops t.parents t.count) (ltb t.period (path t)) (eqb later.refusal 0) refl refl refl
     where
-      by : (b c : Bool) → loops t.parents t.count ≡ b → ltb t.period (path t) ≡ c → tested b (loop_in t) c later ≡ Ok tt → (loops t.parents t.count ≡ false) × (path t ≤ t.period) × (later ≡ Ok tt)
-      by true c l h e = absurd cc
-      by false true l h e = absurd cc
-      by false false l h e = (l, ltb-false t.period (path t) h, e)
+      by : (b c z : Bool) → loops t.parents t.count ≡ b → ltb t.period (path t) ≡ c → eqb later.refusal 0 ≡ z → picked b c z ≡ Ok tt
+          → (loops t.parents t.count ≡ false) × (path t ≤ t.period) × (later.refusal ≡ 0)
+      by true c z l h k e = absurd cc
+      by false true z l h k e = absurd cc
+      by false false true l h k e = (l, ltb-false t.period (path t) h, eqb-true later.refusal 0 k)
+      by false false false l h k e = absurd cc
 
--- what the planner promises of a refusal is the refusal of the rules, and the words that were lent
-module _ (later : Result ⊤ Refusal) (words : List ℕ) (t : TaskTable) where
-  pub told-out : {r : Refusal} {w : List ℕ} → record { answer = refused r; lent = w } ≡ table_plan later words t → (on_table Err (λ _. later) t ≡ Err r) × (w ≡ words)
+-- a plan that a later rule refuses, and one that none does
+module _ (later : Answer) (words : List ℕ) (t : TaskTable) where
+  pub later-refuses : (later.refusal ≡ 0 → ⊥) → unless_later later words t ≡ record { answer = later; lent = words }
+  later-refuses n = rw (ne_eqb later.refusal 0 n)
+
+  pub later-accepts : later.refusal ≡ 0 → unless_later later words t ≡ planned words t
+  later-accepts e = rw (eq-eqb later.refusal 0 e)
+
+  -- what the planner promises of a refusal is the refusal of the rules, and the words that were lent
+  pub told-out : {a : Answer} {w : List ℕ} → (a.refusal ≡ 0 → ⊥) → record { answer = a; lent = w } ≡ table_plan later words t → (rules t later ≡ Err a) × (w ≡ words)
   unfolding on_table
-  told-out {r} {w} = by (loops t.parents t.count) (ltb t.period (path t)) later
+  told-out {a} {w} n = by (loops t.parents t.count) (ltb t.period (path t)) (eqb later.refusal 0)
     where
-      same : (a : Refusal) → record { answer = refused r; lent = w } ≡ unplanned words a → (◌≡◌ {A = Result ⊤ Refusal} (Err a) (Err r)) × (w ≡ words)
-      same a e = (ap (λ (x : After (List ℕ)). Err (refusal_of x.answer)) (sym e), ap (λ (x : After (List ℕ)). x.lent) e)
+      goes : {told : Answer} → ◌≡◌ {A = After (List ℕ)} (record { answer = a; lent = w }) (record { answer = told; lent = words }) → (◌≡◌ {A = Result ⊤ Answer} (Err told) (Err a)) × (w ≡ words)
+      goes e = (ap (λ (x : After (List ℕ)). Err x.answer) (sym e), ap (λ (x : After (List ℕ)). x.lent) e)
 
-      by : (b c : Bool) (l : Result ⊤ Refusal) → record { answer = refused r; lent = w } ≡ pick b (unplanned words (loop_in t)) (pick c (unplanned words (refusal long_path 0)) (unless_later l words t)) →
-          (tested b (loop_in t) c l ≡ Err r) × (w ≡ words)
-      by true c l e = same (loop_in t) e
-      by false true l e = same (refusal long_path 0) e
-      by false false (Err a) e = same a e
-      by false false (Ok done) e = let value = ap (λ (x : After (List ℕ)). x.answer.value) e in absurd (omega arith)
+      by : (b c z : Bool) → record { answer = a; lent = w } ≡ leaves t later b c z words → (picked t later b c z ≡ Err a) × (w ≡ words)
+      by true c z e = goes e
+      by false true z e = goes e
+      by false false false e = goes e
+      by false false true e = absurd (n (ap (λ (x : After (List ℕ)). x.answer.refusal) e))
 
   -- and of a plan, that the later rules refuse nothing, and that it is written
-  pub told-in : {p : Planning} {w : List ℕ} → Totalled t p → record { answer = accepted p.words; lent = w } ≡ table_plan later words t → (later ≡ Ok tt) × (w ≡ written t words)
-  told-in {p} {w} s e = by later (e ∙ on_fits (unplanned words) (unless_later later words) t s.table.free s.table.fits)
+  pub told-in : {a : Answer} {w : List ℕ} → a.refusal ≡ 0 → Planned t → record { answer = a; lent = w } ≡ table_plan later words t
+      → (later.refusal ≡ 0) × (a ≡ accepted (word_count (segment_count t) t.count)) × (w ≡ written t words)
+  told-in {a} {w} z ok e = by (ℕ_discrete later.refusal 0)
     where
-      by : (l : Result ⊤ Refusal) → record { answer = accepted p.words; lent = w } ≡ unless_later l words t → (l ≡ Ok tt) × (w ≡ written t words)
-      by (Ok done) e = (refl, ap (λ (x : After (List ℕ)). x.lent) e)
-      by (Err r) e = let value = ap (λ (x : After (List ℕ)). x.answer.value) e in absurd (omega (arith, s.words))
+      left : {x : After (List ℕ)} → unless_later later words t ≡ x → (a ≡ x.answer) × (w ≡ x.lent)
+      left f = let g = e ∙ on_fits (unplanned words) (unless_later later words) t ok.free ok.fits ∙ f in (ap (λ (p : After (List ℕ)). p.answer) g, ap (λ (p : After (List ℕ)). p.lent) g)
 
--- so where no later rule is tried, everything that goes by a table's refusal goes by it
-pub table-told : {A : Type 0} (refuse : Refusal → A) (go : TaskTable → A) (words : List ℕ) (t : TaskTable) {r : Refusal} {w : List ℕ} →
-    record { answer = refused r; lent = w } ≡ table_plan (Ok tt) words t → refuse r ≡ on_table refuse go t
-table-told refuse go words t e = sym (table-refused refuse go t (told-out (Ok tt) words t e).0)
+      by : Dec (later.refusal ≡ 0) → (later.refusal ≡ 0) × (a ≡ accepted (word_count (segment_count t) t.count)) × (w ≡ written t words)
+      by (yes l) = let so = left (later-accepts l) in (l, so.0, so.1)
+      by (no m) = absurd (m (sym (ap (λ (x : Answer). x.refusal) (left (later-refuses m)).0) ∙ z))

@@ -2,7 +2,7 @@
 // nodes are written last: so s and n stand beside them.
 #![tactic(auto)]
 
-ghost use Rattle.std.specs.Prelude.{◌≡◌, ◌++◌, ◌+◌, ◌*◌, ◌≤◌, ltb, length, drop, IfOk};
+ghost use Rattle.std.specs.Prelude.{◌≡◌, ◌++◌, ◌+◌, ◌*◌, ◌≤◌, ◌≢◌, ltb, length, drop, IfOk, IfErr};
 ghost use Rattle.refusals.specs.Answer.{answered};
 ghost use Rattle.tables.specs.Cost.{costed};
 ghost use Rattle.tables.specs.Inner.Plannable.{Plannable};
@@ -38,24 +38,29 @@ pub fn before_reading(words: usize, cost: u64) -> Result<(), Refusal>
 }
 
 // The rules after the reader's: 10 with its loop where nodes were left when the diagram was run, 11 where its path is longer than the period, else
-// what the later rules say.
+// what the later rules say; an answer that refuses goes out as it is.
 fn tested(
     parents: &[u64; 64],
     swept: Swept,
     n: usize,
     period: u64,
-    later: Result<(), Refusal>,
-) -> Result<(), Refusal>
+    later: Answer,
+) -> Result<(), Answer>
     requires { (n ≤ 64) × Tidy parents.now n × (loops parents.now n ≡ ltb swept.done n) }
     ensures { result ≡ tested (ltb swept.done n) (loop_of parents.now n) (ltb period swept.cut.time) later }
 {
     if swept.done < n {
-        return Err(rings::loop_of(parents, n));
+        return Err(Answer::refused(rings::loop_of(parents, n)));
     }
-    if period < swept.cut.time {
-        return Err(Reason::LongPath.at(0));
+    let answer = if period < swept.cut.time {
+        Answer::refused(Reason::LongPath.at(0))
+    } else {
+        later
+    };
+    if answer.refusal != 0 {
+        return Err(answer);
     }
-    later
+    Ok(())
 }
 
 // The head and the segments' triples.
@@ -101,17 +106,19 @@ pub struct Planning {
     pub longest: u64,
 }
 
-// The plan of a table with a cost: 10, 11, then the caller's later rules, as 12 and 13 of an admission, and only then are words written.
-// A caller that has none gives Ok(()).
+// The plan of a table with a cost: 10, 11, then the answer of the caller's later rules, as 12 and 13 of an admission, and only then are words written.
+// A caller that has none gives Answer::accepted(0). It is no `Result` of a `Refusal`: any answer is taken, and one that refuses is handed back as it
+// is, with its value.
 pub fn plan_table(
     words: &mut [u64],
     table: TaskTable,
     cost: u64,
-    later: Result<(), Refusal>,
-) -> Result<Planning, Refusal>
+    later: Answer,
+) -> Result<Planning, Answer>
     requires { Plannable (costed table cost) × (words_max ≤ length words.old) }
     ensures words_after { record { answer = told result; lent = words.new } ≡ table_plan later words.old (costed table cost) }
     ensures totalled { IfOk result (Totalled (costed table cost)) }
+    ensures refusing { IfErr result (λ answer. answer.refusal ≢ 0) }
 {
     let n = table.count;
     let period = table.period;
@@ -143,7 +150,7 @@ fn plan_record(bytes: &[u8], words: &mut [u64], cost: u64) -> Result<u64, Refusa
 {
     before_reading(words.len(), cost)?;
     let table = records::read_table(bytes)?;
-    let planning = plan_table(words, table, cost, Ok(()))?;
+    let planning = plan_table(words, table, cost, Answer::accepted(0))?;
     Ok(planning.words as u64)
 }
 

@@ -8,11 +8,11 @@ use native.Mathlib.Omega.{arith}
 use lib.ListN.{length, get_or-eq_default, get_or-append}
 use lib.Seq.{get_or-append-add}
 use lib.Dec.{ltb}
-use borrow.Author.Tests.{lt-ltb, ltb-true}
+use borrow.Author.Tests.{lt-ltb, le-ltb, ltb-true}
 use Rattle.plain.specs.At.{at}
 use Rattle.plain.proofs.Lists.{lt-or-ge}
 use Rattle.plain.proofs.Picks.{true-false}
-use Rattle.plain.proofs.Tests.{not-held, all_to-true, true-all_to}
+use Rattle.plain.proofs.Tests.{not-held, all_to-true, true-all_to, all_to-false}
 use Rattle.std.specs.Prelude.{◌↔◌, IsTrue, EachIndex}
 use Rattle.planwriters.specs.Writing.{value_limit, are_small}
 use Rattle.planwriters.specs.Inner.Fits.{Small}
@@ -31,6 +31,11 @@ small-values values e = record {
 pub values-small : (values : List ℕ) → ((k : ℕ) → k < length values → at values k < value_limit) → are_small values ≡ true
 unfolding are_small
 values-small values s = true-all_to (length values) (λ k. ltb (at values k) value_limit) λ k h. lt-ltb _ _ (s k h)
+
+-- one that is not makes it fail
+pub value-big : (values : List ℕ) (k : ℕ) → k < length values → value_limit ≤ at values k → are_small values ≡ false
+unfolding are_small
+value-big values k h l = all_to-false (length values) (λ j. ltb (at values j) value_limit) k h (le-ltb _ _ l)
 
 -- a test that asks each place is this one
 pub small-told : (values : List ℕ) (b : Bool) → (IsTrue b ↔ EachIndex values (λ k. at values k < value_limit)) → b ≡ are_small values

@@ -1,10 +1,10 @@
 -- Values are counted and written from the front: what was passed, with the next value behind it, is what will have been passed.
-use Prim.Native.Nat.{ℕ, suc, ◌+◌, ◌^◌, ◌≤◌, ◌<◌}
+use Prim.Native.Nat.{ℕ, suc, ◌+◌, ◌*◌, ◌^◌, ◌≤◌, ◌<◌}
 use mathlib.Core.Path.{◌≡◌, refl, ap}
 use mathlib.Core.List.{List, [], ◌∷◌, ◌++◌}
 use native.Mathlib.Numerals.{add-one}
 use native.Mathlib.Omega.{arith}
-use lib.ListN.{length, take, drop}
+use lib.ListN.{length, take, drop, length-take}
 use lib.Seq.{take-suc, split_at, sets}
 use Rattle.std.specs.List.{sum_by}
 use Rattle.std.proofs.lemmas.List.Sums.{sum_by-cons}
@@ -32,14 +32,21 @@ unfolding all_shortest
 size-sum [] s = refl
 size-sum (v ∷ vs) s = omega (arith, sum_by-cons word_size v vs, size-sum vs (small-behind s), written-length plan_more (v ∷ []) vs, ap (length {A = ℕ}) (small-number v (s.each 0)))
 
--- and so many take no more than so many bytes
-pub size-most : (values : List ℕ) → Small values → length values ≤ words_max → sum_by word_size values < 2 ^ 64
-size-most values s h = omega (arith, size-sum values s, written-most plan_more values)
+-- so many take no more than so many bytes, and their sum fits
+pub size-most : (values : List ℕ) (k : ℕ) → length values ≤ words_max → length (all_shortest plan_more (take k values)) ≤ words_max * suc plan_more
+size-most values k h = omega (arith, written-most plan_more (take k values), length-take k values)
+
+pub size-fits : (values : List ℕ) → Small values → length values ≤ words_max → sum_by word_size values < 2 ^ 64
+size-fits values s h = omega (arith, size-sum values s, written-most plan_more values)
 
 module _ (values : List ℕ) (i : ℕ) (h : i < length values) where
   -- the next value
   passed-next : take (i + 1) values ≡ take i values ++ (at values i ∷ [])
   passed-next = rw (add-one i) (take-suc values i 0 h)
+
+  -- the size with it
+  pub size-next : at values i < value_limit → length (all_shortest plan_more (take (i + 1) values)) ≡ length (all_shortest plan_more (take i values)) + length (shortest word_more (at values i))
+  size-next s = rw (passed-next, small-number (at values i) s) (written-length plan_more (take i values) (at values i ∷ []))
 
   module _ {b c : List ℕ} {k next : ℕ} (w : Wrote plan_more b k (take i values) c next) (s : at values i < value_limit) where
     -- there is room for it

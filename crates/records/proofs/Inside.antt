@@ -1,5 +1,5 @@
 -- No step leaves the input: a number's bytes are bytes of the rest, so the place after it is at most the input's length.
-use Prim.Native.Nat.{ℕ, suc, ◌+◌, ◌-◌, ◌*◌, ◌%◌, ◌^◌, ◌≤◌, ◌<◌}
+use Prim.Native.Nat.{ℕ, zero, suc, ◌+◌, ◌-◌, ◌*◌, ◌%◌, ◌^◌, ◌≤◌, ◌<◌}
 use mathlib.Core.Path.{◌≡◌, refl, sym, ap, ◌∙◌}
 use mathlib.Core.Bool.{Bool, true, false, ◌&&◌}
 use mathlib.Core.List.{List}
@@ -16,11 +16,13 @@ use Rattle.std.specs.Prelude.{Result, Ok, Err}
 use Rattle.numbers.specs.declared.Number.{Number}
 use Rattle.numbers.specs.declared.Fault.{Fault}
 use Rattle.numbers.specs.declared.Fault.TheVariants.{Ended, TooLong, NotShortest}
-use Rattle.numbers.specs.Number.{number, worth}
+use Rattle.numbers.specs.Number.{number, worth, record_more}
 use Rattle.numbers.proofs.Bounds.{value-bounded}
+use Rattle.refusals.specs.Numbers.{bad_parent}
 use Rattle.refusals.specs.Refusal.{refusal}
 use Rattle.records.specs.Step.{Step, read, and_then}
 use Rattle.records.specs.Ranged.{step_of, whole_in, ranged_in}
+use Rattle.records.specs.Parents.{parents, parent_set}
 
 -- a step inside an input of `size` bytes, with a value that is as P says
 abbrev pub Inside : ℕ → (ℕ → Type 0) → Step → Type 0
@@ -96,3 +98,18 @@ bit_word p h = ap (λ (w : ℕ). w % 2 ^ 64) (one-mul (2 ^ p)) ∙ mod-eq_of_lt 
 
 pub word_room : (set low p : ℕ) → set < 2 ^ low → low ≤ p → p < 64 → set + (1 * 2 ^ p) % 2 ^ 64 < 2 ^ 64
 word_room set low p h l q = rw (bit_word p q) (lt_of_lt_of_le (set_room set low p h l) (pow_mono {i = p + 1} {j = 64} (omega arith)))
+
+-- the set that the parents make holds only nodes below n
+pub parents-inside : (k n low set : ℕ) (s : List ℕ) (at : ℕ) → 1 ≤ n → low ≤ n → set < 2 ^ low → at ≤ length s →
+    Inside (length s) (λ v. v < 2 ^ n) (parents k n low set s at)
+unfolding parents
+parents-inside zero n low set s at o l h a = (lt_of_lt_of_le h (pow_mono l), a)
+parents-inside (suc k) n low set s at o l h a =
+    then-step (length s) _ _ _ _ (ranged-inside record_more bad_parent low (n - 1) s at a) λ p next i b.
+    parents-inside k n (p + 1) (set + 2 ^ p) s next o (omega arith) (set_room set low p h i.0) b
+
+pub parent_set-inside : (n : ℕ) (s : List ℕ) (at : ℕ) → 1 ≤ n → at ≤ length s → Inside (length s) (λ v. v < 2 ^ n) (parent_set n s at)
+unfolding parent_set
+parent_set-inside n s at o a =
+    then-step (length s) _ _ _ _ (ranged-inside record_more bad_parent 0 n s at a) λ k next i b.
+    parents-inside k n 0 0 s next o (omega arith) (omega arith) b

@@ -142,3 +142,12 @@ impl From<Result<u64, Refusal>> for Answer {
         }
     }
 }
+
+// The refusal of an answer, where `?` hands one on to a caller that tells no value beside it.
+impl From<Answer> for Refusal {
+    ghost from_gives = { λ answer refusal. refusal ≡ refusal_of answer };
+
+    fn from(answer: Answer) -> Self {
+        Refusal::told_by(answer)
+    }
+}

@@ -1,8 +1,9 @@
 -- The numerators among the words: a turn stores one third word, so every word that is no third word of the s triples stays; threads and
 -- lengths are such words.
-use mathlib.Core.Path.{◌≡◌, sym, ap₂, ◌∙◌}
+use mathlib.Core.Path.{◌≡◌, refl, sym, ap₂, ◌∙◌}
 use mathlib.Core.List.{List}
 use Prim.Native.Nat.{ℕ, ◌+◌, ◌*◌, ◌≤◌, ◌<◌}
+use native.Mathlib.Nat.{not-suc-le-zero}
 use native.Mathlib.Omega.{arith}
 use lib.ListN.{length, drop, set, length-set, length-drop}
 use lib.Seq.{get_or-set_same, get_or-set_other, get_or-drop, ext_get_or}
@@ -25,7 +26,10 @@ module _ {d : Deal} {T C P s : ℕ} {w₀ w : List ℕ} (is : Numbered d T C P s
   pub rest-kept : (k : ℕ) → 3 + 3 * s ≤ k → at w k ≡ at w₀ k
   rest-kept k h = is.kept k (λ j l e. omega arith)
 
--- after one turn more
+-- before the first turn, and after one more
+pub numbered-none : {d : Deal} {T C P : ℕ} {w : List ℕ} → Numbered d T C P 0 w w
+numbered-none = record { size = refl; written = λ j h. absurd (not-suc-le-zero h); kept = λ k n. refl }
+
 pub numbered_more : {d : Deal} {T C P s : ℕ} {w₀ w : List ℕ} (x : ℕ) → 5 + 3 * s < length w → x ≡ numerator d T C P (threads_at w s) (length_at w s) → Numbered d T C P s w₀ w → Numbered d T C P (s + 1) w₀ (set w (5 + 3 * s) x)
 numbered_more {d} {T} {C} {P} {s} {w₀} {w} x room p i =
     record {

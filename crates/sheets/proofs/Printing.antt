@@ -5,7 +5,7 @@ use mathlib.Core.List.{List}
 use Prim.Native.Nat.{ℕ, ◌+◌, ◌*◌, ◌≤◌, ◌<◌}
 use native.Mathlib.Omega.{arith}
 use borrow.Author.Tests.{lt-ltb, le-ltb}
-use lib.ListN.{length, drop}
+use lib.ListN.{length, drop, length-drop}
 use Rattle.tables.specs.declared.TaskTable.{TaskTable}
 use Rattle.segments.proofs.Segments.{segments-le}
 use Rattle.plans.specs.Diagram.{finish}
@@ -14,12 +14,16 @@ use Rattle.plans.specs.Inner.Planned.{Planned}
 use Rattle.plans.proofs.Figures.{plan-fits, figures-in}
 use Rattle.plans.proofs.Read.{at-segments, at-nodes}
 use Rattle.texts.specs.declared.Page.{Page}
+use Rattle.texts.specs.Inner.Wrote.{Wrote}
 use Rattle.texts.specs.Inner.Page.{Puts}
 use Rattle.sheets.specs.Sheet.{sheet_max}
 use Rattle.sheets.specs.Printed.{Prints}
 use Rattle.sheets.specs.Inner.Printable.{Printable}
 
--- the text under another name
+-- the text under another name, in a buffer and on a page
+pub wrote-same : {at end : ℕ} {text text' out out₁ : List ℕ} → text ≡ text' → Wrote at text out out₁ end → Wrote at text' out out₁ end
+wrote-same e w = rw e at w
+
 pub puts-same : {text text' : List ℕ} {p q : Page} → text ≡ text' → Puts p text q → Puts p text' q
 puts-same e w = rw e at w
 
@@ -31,6 +35,10 @@ prints {text} {p = p} {q = q} start h w same =
 
 pub leaves : (text : List ℕ) {out : List ℕ} → length out < sheet_max → Prints text out 0 out
 leaves text {out} h = (rw (lt-ltb (length out) sheet_max h), omega arith)
+
+-- room for n triples in the words from a place on
+pub part_room : (w : List ℕ) (from n : ℕ) → from + 3 * n ≤ length w → 3 * n ≤ length (drop from w)
+part_room w from n h = rw length-drop (omega arith)
 
 module _ {t : TaskTable} (ok : Planned t) (words : List ℕ) (room : words_max ≤ length words) where
   pub printable : {w : List ℕ} → w ≡ written t words → Printable w

@@ -11,10 +11,10 @@ use Rattle.tables.specs.Limits.{count_max}
 use Rattle.refusals.specs.declared.Refusal.{Refusal}
 use Rattle.shares.specs.declared.Figures.{Figures}
 use Rattle.shares.specs.Figures.{figures}
+use Rattle.texts.specs.declared.Triple.{Triple}
 use Rattle.texts.proofs.Sizes.{line-size}
 use Rattle.sheets.specs.declared.lines.Head.{Head}
 use Rattle.sheets.specs.declared.lines.Part.{Part}
-use Rattle.sheets.specs.declared.lines.Triple.{Triple}
 use Rattle.sheets.specs.declared.lines.Part.TheVariants.{Segments, Nodes}
 use Rattle.sheets.specs.Lines.{task_line, triple_line, triples_to, total_line, refused_line}
 use Rattle.sheets.specs.Sheet.{segment_triples, node_triples, density_at, sheet_text, sheet_max}

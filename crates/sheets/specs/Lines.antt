@@ -3,11 +3,11 @@ use Rattle.std.specs.Prelude.{List, [], ◌∷◌, ◌++◌, ℕ, zero, suc, ◌
 use Rattle.plain.specs.At.{at}
 use Rattle.refusals.specs.declared.Refusal.{Refusal}
 use Rattle.shares.specs.declared.Figures.{Figures}
+use Rattle.texts.specs.declared.Triple.{Triple}
 use Rattle.texts.specs.Text.{bytes}
 use Rattle.texts.specs.Lines.{line}
 use Rattle.sheets.specs.declared.lines.Head.{Head}
 use Rattle.sheets.specs.declared.lines.Part.{Part}
-use Rattle.sheets.specs.declared.lines.Triple.{Triple}
 use Rattle.sheets.specs.declared.lines.Part.TheVariants.{Segments, Nodes}
 
 -- "task 3 period 6 work 5 path 3 over 5"

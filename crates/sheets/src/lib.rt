@@ -17,7 +17,7 @@ ghost use Rattle.sheets.specs.Inner.Printable.{Printable, SheetRoom};
 
 pub use lines::Head;
 use lines::Part;
-use refusals::Refusal;
+use refusals::{Answer, Refusal};
 use tables::TaskTable;
 use texts::Page;
 
@@ -71,7 +71,7 @@ pub fn put_table(page: &mut Page, table: &TaskTable)
     ensures { Puts page.old (on_table refused_line table_sheet (costed table.now sheet_cost)) page.new }
 {
     let mut words = [0u64; plans::WORDS_MAX];
-    match plans::plan_table(&mut words, *table, 0, Ok(())) {
+    match plans::plan_table(&mut words, *table, 0, Answer::accepted(0)) {
         Ok(planning) => {
             let head = Head {
                 id: table.id,
@@ -81,7 +81,7 @@ pub fn put_table(page: &mut Page, table: &TaskTable)
             };
             put_sheet(page, head, &words);
         }
-        Err(refusal) => put_refusal(page, refusal),
+        Err(answer) => put_refusal(page, Refusal::told_by(answer)),
     }
 }
 

@@ -3,7 +3,7 @@ ghost use Rattle.std.specs.Prelude.{◌≡◌, ◌+◌, ◌*◌, ◌≤◌, ◌<
 ghost use Rattle.texts.specs.Inner.Page.{HasRoom, Puts};
 ghost use Rattle.sheets.specs.Lines.{task_line, triple_line, triple_at, triples_to};
 
-use texts::Page;
+use texts::{Page, Triple};
 
 // What the first line gives of a task, beside the plan's Q.
 #[derive(Clone, Copy)]
@@ -19,14 +19,6 @@ pub struct Head {
 pub enum Part {
     Segments,
     Nodes,
-}
-
-// Three numbers of a plan.
-#[derive(Clone, Copy)]
-pub struct Triple {
-    pub x: u64,
-    pub y: u64,
-    pub z: u64,
 }
 
 pub fn put_task_line(page: &mut Page, head: Head, over: u64)

@@ -24,6 +24,10 @@ at-cost X cost v = get_or-map (with_cost cost) X v 0
 pub cost-runs : (cost written : ℕ) → 1 ≤ written → with_cost cost written ≡ written + cost
 cost-runs cost written h = rw (ne_eqb written 0 (λ (z : written ≡ 0). omega arith))
 
+-- who doesn't pays nothing
+pub cost-idle : (cost written : ℕ) → written ≡ 0 → 0 ≡ with_cost cost written
+cost-idle cost written z = rw z
+
 -- what holds of 0, and of each that runs with its cost, holds of every execution with its cost
 pub cost-cases : (cost : ℕ) (P : ℕ → ℕ → Type 0) → P 0 0 → ((written : ℕ) → 1 ≤ written → P written (written + cost)) → (written : ℕ) → P written (with_cost cost written)
 cost-cases cost P idle runs written = ⊎_elim

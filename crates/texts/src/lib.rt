@@ -6,6 +6,14 @@ ghost use Rattle.texts.specs.Decimal.{decimal};
 ghost use Rattle.texts.specs.Lines.{field, line};
 ghost use Rattle.texts.specs.Inner.Page.{HasRoom, Puts, words_of};
 
+// Three numbers of a line.
+#[derive(Clone, Copy)]
+pub struct Triple {
+    pub x: u64,
+    pub y: u64,
+    pub z: u64,
+}
+
 // A text in a lent buffer: its first `end` bytes are written, and each writer goes on behind them.
 #[derive(Drop)]
 pub struct Page<'a> {

@@ -18,9 +18,14 @@ pub fn weigh(weights: &[u64; 64], n: usize) -> Weighed
     requires { (n ≤ 64) × ((v : ℕ) → at weights.now v ≤ weight_max) }
     ensures { (result.work ≡ work_of weights.now n) × (result.longest ≡ longest_of weights.now n) }
 {
-    let weights = &weights[..n];
-    Weighed {
-        work: weights.iter().sum(),
-        longest: weights.iter().copied().max().unwrap_or(0),
+    let mut weighed = Weighed {
+        work: 0,
+        longest: 0,
+    };
+    for v in 0..n {
+        let weight = weights[v];
+        weighed.work += weight;
+        weighed.longest = weighed.longest.max(weight);
     }
+    weighed
 }

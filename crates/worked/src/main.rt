@@ -1,9 +1,10 @@
 // Runs the tables of document 01 that are not proved, tables with a cost, tables of steps that run to their end, tasks that are turned away, and the
-// records on which a tired planner's slips would show; prints a line for each.
+// records on which a tired planner's slips would show; prints a line for each. The numbers of the refusals are document 01's, written out, so that two
+// that were exchanged would show.
 #![tactic(auto)]
 
 use boards::Board;
-use refusals::{Answer, Reason, Refusal};
+use refusals::{Answer, Refusal};
 
 // A table's name, and whether it came out as worked by hand.
 fn say(rt: &impl Print, name: &str, right: bool) {
@@ -45,14 +46,12 @@ fn noted(board: Board, record: &[u8], cost: u64) -> Board {
     }
 }
 
-// Whether an admission is refused for this reason without a word written, or, where there is none, the task is kept with its plan.
-fn is_admitted(board: &Board, record: &[u8], cores: u64, reason: Option<Reason>) -> bool {
+// Whether an admission is refused by this number without a word written, or, where there is none, the task is kept with its plan.
+fn is_admitted(board: &Board, record: &[u8], cores: u64, number: Option<u64>) -> bool {
     let mut words = [0u64; plans::WORDS_MAX];
     match guards::admission(record, &mut words, board, cores, 0) {
-        Ok(_) => reason.is_none() && words[0] != 0,
-        Err(refusal) => {
-            reason.is_some_and(|told| told.number() == refusal.number) && words[0] == 0
-        }
+        Ok(_) => number.is_none() && words[0] != 0,
+        Err(refusal) => number == Some(refusal.number) && words[0] == 0,
     }
 }
 
@@ -63,15 +62,15 @@ fn admitted(
     board: &Board,
     record: &[u8],
     cores: u64,
-    reason: Option<Reason>,
+    number: Option<u64>,
 ) {
-    say(rt, name, is_admitted(board, record, cores, reason));
+    say(rt, name, is_admitted(board, record, cores, number));
 }
 
 // A record's task that is turned away by 20 on the empty board, however many cores there are.
 fn never_kept(rt: &impl Print, name: &str, record: &[u8]) {
     let board = Board::empty();
-    let never = (1..65).all(|cores| is_admitted(&board, record, cores, Some(Reason::VerdictNo)));
+    let never = (1..65).all(|cores| is_admitted(&board, record, cores, Some(20)));
     say(rt, name, never);
 }
 
@@ -94,7 +93,7 @@ fn to_end(rt: &impl Print, name: &str, board: &Board, cores: u64, yes: bool) {
 // A withdrawal from the empty board.
 fn not_withdrawn(rt: &impl Print, name: &str, id: u64) {
     let refusal = boards::withdrawn(&Board::empty(), id).err();
-    say(rt, name, refusal == Some(Reason::NotStanding.at(0)));
+    say(rt, name, refusal == Some(Refusal::of(14, 0)));
 }
 
 // Plans in words: Q, s, n, the segments' triples, the nodes' triples.
@@ -194,25 +193,25 @@ fn join_slips(rt: &impl Print) {
         rt,
         "edition 1 has no joins",
         b"\x01\x07\x09\x01\x00\x00",
-        Reason::BadExecution.at(4),
+        Refusal::of(7, 4),
     );
     refused(
         rt,
         "one join alone: nothing runs",
         b"\x02\x07\x09\x01\x00\x00",
-        Reason::NoneRuns.at(0),
+        Refusal::of(21, 0),
     );
     refused(
         rt,
         "a byte after one join alone: 9 before 21",
         b"\x02\x07\x09\x01\x00\x00\x00",
-        Reason::BytesFollow.at(6),
+        Refusal::of(9, 6),
     );
     refused(
         rt,
         "one join that is its own parent: 21 before 10",
         b"\x02\x07\x09\x01\x00\x01\x00",
-        Reason::NoneRuns.at(0),
+        Refusal::of(21, 0),
     );
 }
 
@@ -230,7 +229,7 @@ fn cost_slips(rt: &impl Print) {
         "a cost of 6 does not fit it",
         b"\x01\x07\x0a\x01\x05\x00",
         6,
-        Reason::LongPath.at(0),
+        Refusal::of(11, 0),
     );
     planned_with_cost(
         rt,
@@ -251,7 +250,7 @@ fn cost_slips(rt: &impl Print) {
         "a cost of 256: 26 before 1",
         b"",
         256,
-        Reason::HighCost.at(0),
+        Refusal::of(26, 0),
     );
 }
 
@@ -374,7 +373,7 @@ fn guard_slips(rt: &impl Print) {
         &full,
         b"\x01\x08\xe8\x07\x01\x05\x00",
         1,
-        Some(Reason::VerdictNo),
+        Some(20),
     );
     admitted(
         rt,
@@ -382,16 +381,9 @@ fn guard_slips(rt: &impl Print) {
         &full,
         b"\x01\x07\xe8\x07\x01\x05\x00",
         1,
-        Some(Reason::IdStands),
+        Some(12),
     );
-    admitted(
-        rt,
-        "for 0 cores: 15 before 1",
-        &full,
-        b"",
-        0,
-        Some(Reason::BadCores),
-    );
+    admitted(rt, "for 0 cores: 15 before 1", &full, b"", 0, Some(15));
     never_kept(
         rt,
         "the chain is turned away on every count",
@@ -422,13 +414,17 @@ fn other_slips(rt: &impl Print) {
         rt,
         "a parent equal to the one before it",
         b"\x01\x05\x0a\x02\x03\x00\x04\x02\x00\x00",
-        Reason::BadParent.at(9),
+        Refusal::of(8, 9),
     );
     refused(
         rt,
         "a loop of 1, 3 and 4, on which 0 hangs and which hangs on 2",
         b"\x01\x05\x0a\x05\x01\x01\x03\x01\x01\x04\x01\x00\x01\x01\x01\x01\x02\x02\x03",
-        Refusal::looped(1, 26),
+        Refusal {
+            number: 10,
+            place: 1,
+            ring: 26,
+        },
     );
 }
 

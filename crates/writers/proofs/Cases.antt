@@ -22,6 +22,11 @@ use Rattle.numbers.specs.Inner.Word.{word_more}
 use Rattle.numbers.proofs.Shortest.{shortest-length}
 use Rattle.writers.specs.Inner.Trial.{node_max, Trial, passed, stopped, tried, parents_tried, node_tried, nodes_tried, head_tried}
 
+-- where a trial is: the place that it came to, or the one at which it stopped
+abbrev pub reached : Trial → ℕ
+reached (Ok place) = place
+reached (Err x) = x.place
+
 -- a number in its range moved the trial on by its shortest form
 pub record InRange (low high v : ℕ) (r : Trial) (next : ℕ) : Type 0 where
   pub place : ℕ
@@ -30,8 +35,12 @@ pub record InRange (low high v : ℕ) (r : Trial) (next : ℕ) : Type 0 where
   pub most : v ≤ high
   pub next-is : next ≡ place + length (shortest word_more v)
 
--- a number out of its range, and in it
+-- a number after a trial that stopped; one out of its range, and in it; and how far it goes
 module _ (broken low high v : ℕ) where
+  pub tried-stays : (x : Refusal) → tried broken low high v (Err x) ≡ Err x
+  unfolding tried
+  tried-stays x = refl
+
   pub tried-out : (place : ℕ) → (v < low) ⊎ (high < v) → tried broken low high v (Ok place) ≡ stopped broken place
   unfolding tried
   tried-out place h = ⊎_elim (λ l. simp (lt-leb low v l)) (λ g. simp (lt-leb v high g, and-false)) h
@@ -52,11 +61,17 @@ module _ (broken low high v : ℕ) where
       by false true p q h = cc
       by false false p q h = cc
 
-  pub tried-near : (place next : ℕ) → Ok next ≡ tried broken low high v (Ok place) → next ≤ place + suc word_more
-  tried-near place next h =
-      let f = tried-passed (Ok place) next (sym h) in
-      let same : f.place ≡ place = cc in
-      omega (arith, f.next-is, shortest-length word_more v)
+  pub tried-near : (r : Trial) → reached (tried broken low high v r) ≤ reached r + suc word_more
+  unfolding tried
+  tried-near (Err x) = omega arith
+  tried-near (Ok place) = by (leb low v && leb v high)
+    where
+      by : (t : Bool) → reached (pick t (passed (place + length (shortest word_more v))) (stopped broken place)) ≤ place + suc word_more
+      by true = omega (arith, shortest-length word_more v)
+      by false = omega arith
+
+  pub tried-next : (place next : ℕ) → Ok next ≡ tried broken low high v (Ok place) → next ≤ place + suc word_more
+  tried-next place next h = rw (← h) at (tried-near (Ok place))
 
 -- the same of a node's parents: not all are nodes, and all are
 pub record AllNodes (n set : ℕ) (r : Trial) (next : ℕ) : Type 0 where
@@ -66,6 +81,10 @@ pub record AllNodes (n set : ℕ) (r : Trial) (next : ℕ) : Type 0 where
   pub next-is : next ≡ place + size_to n set
 
 module _ (n set : ℕ) where
+  pub parents-stay : (x : Refusal) → parents_tried n set (Err x) ≡ Err x
+  unfolding parents_tried
+  parents-stay x = refl
+
   pub parents-out : (place : ℕ) → size_to n set < size set → parents_tried n set (Ok place) ≡ stopped bad_parent (place + size_to n set)
   unfolding parents_tried
   parents-out place h = simp (lt-ltb _ _ h)
@@ -84,15 +103,25 @@ module _ (n set : ℕ) where
       by true p h = cc
       by false p h = record { place = place; came = refl; all = ltb-false _ _ p; next-is = cc }
 
+  pub parents-near : (r : Trial) → reached (parents_tried n set r) ≤ reached r + n
+  unfolding parents_tried
+  parents-near (Err x) = omega arith
+  parents-near (Ok place) = by (ltb (size_to n set) (size set))
+    where
+      by : (t : Bool) → reached (pick t (stopped bad_parent (place + size_to n set)) (passed (place + size_to n set))) ≤ place + n
+      by true = omega (arith, size-full n set)
+      by false = omega (arith, size-full n set)
+
 -- a node goes no further than `node_max`, and stays where it follows a refusal
 module _ (least n e set : ℕ) where
-  pub node-near : (place next : ℕ) → n ≤ count_max → Ok next ≡ node_tried least n e set (Ok place) → next ≤ place + node_max
-  node-near place next h q =
-      let c = parents-passed n set _ next (sym q) in
-      let b = tried-passed bad_parent 0 n (size set) _ c.place c.came in
-      let a = tried-passed bad_execution least execution_max e (Ok place) b.place b.came in
-      let same : a.place ≡ place = cc in
-      omega (arith, a.next-is, b.next-is, c.next-is, shortest-length word_more e, shortest-length word_more (size set), size-full n set)
+  pub node-near : (r : Trial) → n ≤ count_max → reached (node_tried least n e set r) ≤ reached r + node_max
+  node-near r h =
+      let first = tried bad_execution least execution_max e r in
+      let second = tried bad_parent 0 n (size set) first in
+      omega (arith, tried-near bad_execution least execution_max e r, tried-near bad_parent 0 n (size set) first, parents-near n set second)
+
+  pub node-next : (place next : ℕ) → n ≤ count_max → Ok next ≡ node_tried least n e set (Ok place) → next ≤ place + node_max
+  node-next place next h q = rw (← q) at (node-near (Ok place) h)
 
   pub node-stays : (x : Refusal) → node_tried least n e set (Err x) ≡ Err x
   unfolding tried parents_tried
@@ -142,3 +171,11 @@ head_passed x d p n next h =
       near =
           omega (arith, a.next-is, b.next-is, c.next-is, e.next-is, shortest-length word_more x, shortest-length word_more d, shortest-length word_more p, shortest-length word_more n);
     }
+
+-- no head goes further, one that is refused neither
+pub head_near : (x d p n : ℕ) → reached (head_tried x d p n) ≤ node_max
+head_near x d p n =
+    let first = tried bad_edition 1 edition_max x (passed 0) in
+    let second = tried bad_id 1 id_max d first in
+    let third = tried bad_period 1 period_max p second in
+    omega (arith, tried-near bad_edition 1 edition_max x (passed 0), tried-near bad_id 1 id_max d first, tried-near bad_period 1 period_max p second, tried-near bad_count 1 count_max n third)

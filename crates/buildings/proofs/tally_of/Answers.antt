@@ -1,13 +1,16 @@
 -- `buildings::tally_of` meets its contract: the reading's refusal first, then planning's; an accepted task is tallied by its written plan.
 use mathlib.Core.Path.{refl, sym, ap, ◌∙◌}
+use mathlib.Core.List.{List}
+use Prim.Native.Nat.{ℕ}
 use Rattle.std.specs.Prelude.{Result, Ok, Err}
 use Rattle.refusals.specs.declared.Refusal.{Refusal}
+use Rattle.refusals.specs.After.{After}
 use Rattle.refusals.proofs.Out.{goes-out}
 use Rattle.tables.specs.declared.TaskTable.{TaskTable}
 use Rattle.tables.specs.Cost.{costed}
 use Rattle.plans.specs.Inner.Drawn.{Totalled}
 use Rattle.plans.proofs.Table.{read-plannable}
-use Rattle.plans.proofs.Tests.{on_fits, table-refused, task-out, task-table, told-out, told-in}
+use Rattle.plans.proofs.Tests.{on_fits, table-told, task-out, task-table, told-in}
 use Rattle.buildings.specs.declared.Sums.{Sums}
 use Rattle.buildings.specs.Inner.Tally.{task_sums, tally_of}
 use Rattle.buildings.specs.Inner.PlanOf.{PlanOf}
@@ -32,8 +35,10 @@ pub returns-in_err-planning : goal.returns-in_err-planning
 unfolding tally_of
 returns-in_err-planning c =
     let t = costed c.in_ok-table.table c.args.cost in
+    let planned = rw c.accepted.ensures at c.in_err-planning.ensures.words_after in
     goes-out _ _ c.from_residual-in_err-planning.ensures.1
-    ∙ sym (task-table failed added c.args.bytes.now c.args.cost c.in_ok-table.ensures ∙ table-refused failed added t (told-out (Ok tt) c.args.words.now t c.in_err-planning.ensures.words_after).0)
+    ∙ table-told failed added c.args.words.now t (ap (λ (x : After (List ℕ)). x.answer) planned) c.in_err-planning.ensures.refusing
+    ∙ sym (task-table failed added c.args.bytes.now c.args.cost c.in_ok-table.ensures)
 
 -- an accepted table's plan stands in the words
 of-plan : (c : In_ok-planning) → PlanOf (costed c.in_ok-table.table c.args.cost) c.plan_table.new.words c.in_ok-table.table.period c.in_ok-planning.planning
@@ -45,7 +50,7 @@ of-plan c =
       period-is = refl;
       lent = c.args.words.now;
       room = c.requires.1;
-      plan = (told-in (Ok tt) c.args.words.now t totals c.in_ok-planning.ensures.words_after).1;
+      plan = (told-in c.accepted.result c.args.words.now t refl totals.table c.in_ok-planning.ensures.words_after).2;
     }
 
 pub sums_of-requires : goal.sums_of-requires

@@ -1,5 +1,5 @@
 -- `graphsheets::put_relaxed` meets its contract: a table that is refused at the largest period has a loop, and for any other planning tells the path.
-use mathlib.Core.Path.{◌≡◌, ◌∙◌}
+use mathlib.Core.Path.{◌≡◌, ap, ◌∙◌}
 use mathlib.Core.Bool.{false}
 use mathlib.Core.List.{List}
 use Prim.Native.Nat.{ℕ}
@@ -8,6 +8,8 @@ use native.Mathlib.Omega.{arith}
 use Rattle.ways.specs.Closure.{loops}
 use Rattle.plans.specs.Diagram.{path}
 use Rattle.plans.specs.Words.{words_max}
+use Rattle.refusals.specs.After.{After}
+use Rattle.sheets.specs.Lines.{refused_line}
 use Rattle.sheets.proofs.Printing.{puts-same}
 use Rattle.graphsheets.proofs.Relaxed.{path-free, costed-ready, path-high, relaxed-ready, refused-loop}
 use Rattle.graphsheets.proofs.put_relaxed.Goals as goal
@@ -37,4 +39,6 @@ returns-in-Ok c = rw (told (goal.at.returns-in-Ok c).In-Ok).1 at c.put_table.ens
 pub returns-in-Err : goal.returns-in-Err
 returns-in-Err c =
     let zeros : List ℕ = replicate words_max 0 in
-    puts-same (refused-loop c.requires.in_range zeros c.requires.largest c.in-Err.ensures.words_after) c.put_refusal.ensures
+    let planned = rw c.accepted.ensures at c.in-Err.ensures.words_after in
+    let told = refused-loop c.requires.in_range zeros c.requires.largest (ap (λ (x : After (List ℕ)). x.answer) planned) c.in-Err.ensures.refusing in
+    puts-same (ap refused_line c.told_by.ensures ∙ told) c.put_refusal.ensures

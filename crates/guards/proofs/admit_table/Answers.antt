@@ -3,13 +3,12 @@
 use Rattle.std.proofs.Common.{◌≡◌, refl, sym, ap, ap₂, ◌∙◌, List, ℕ, ◌+◌, ◌-◌, ◌*◌, ◌≤◌, ◌<◌, length, replicate, max, set, take, drop, ◌++◌, arith}
 use Rattle.std.specs.Prelude.{Ok}
 use lib.Dec.{leb}
+use Rattle.refusals.specs.Answer.{accepted, answered}
 use Rattle.refusals.proofs.Out.{goes-out}
 use Rattle.tables.specs.declared.TaskTable.{TaskTable}
 use Rattle.tables.specs.Limits.{million}
 use Rattle.tables.specs.Cost.{costed}
 use Rattle.plans.specs.Diagram.{segment_count}
-use Rattle.plans.specs.Inner.Drawn.{Totalled}
-use Rattle.plans.specs.declared.Planning.{Planning}
 use Rattle.plans.specs.Words.{words_max, word_count, written}
 use Rattle.plans.specs.Calls.{on_table}
 use Rattle.plans.proofs.Read.{words-fit}
@@ -22,14 +21,14 @@ use Rattle.boards.specs.Verdict.{sum_of, largest_of, verdict}
 use Rattle.boards.proofs.Sound.{sound-test, sum_of-le, largest_of-le}
 use Rattle.admissions.specs.Admission.{row_of, not_admitted}
 use Rattle.admissions.specs.Inner.PlanIn.{PlanIn}
-use Rattle.admissions.proofs.Place.{found}
+use Rattle.admissions.proofs.Place.{found, later_of, later-refused}
 use Rattle.admissions.proofs.Tests.{table-out, table-in, leaves}
 use Rattle.std.proofs.lemmas.List.{length-take-le}
 use Rattle.guards.specs.Guarded.{guarded_entry}
 use Rattle.guards.proofs.Copy.{plan-copied}
 use Rattle.guards.proofs.Guarding.{sum-beside, largest-beside, later-told, guard_out, free-low, beside-sound, told, turned-away, kept_in}
 use Rattle.guards.proofs.admit_table.Goals as goal
-use Rattle.guards.proofs.admit_table.Goals.{Start, After-told_place-place, In_ok-planning, After-row_of-row, After-guard-verdict}
+use Rattle.guards.proofs.admit_table.Goals.{Start, After-told_place-place, After-from-later, In_ok-planning, After-row_of-row, After-guard-verdict}
 
 -- the board with a task's row
 abbrev next : List Row → TaskTable → List Row
@@ -43,30 +42,37 @@ zeros = replicate words_max 0
 found-so : (c : After-told_place-place) → c.told_place-place.result ≡ found c.args.asking.board.now.rows (row_of (costed c.args.table.now c.args.cost))
 found-so c = rw (c.place_of.ensures, c.place_of-2.ensures) at c.told_place-place.ensures
 
+-- planning is told that
+later-so : (c : After-from-later) → c.from-later.result ≡ later_of c.told_place-place.result
+later-so c = c.from-later.ensures ∙ ap answered c.and.ensures
+
 pub returns-in_err-planning-clause-told : goal.returns-in_err-planning-clause-told
 returns-in_err-planning-clause-told c =
     let words = c.args.words.now in
     let rows = c.args.asking.board.now.rows in
     let t = costed c.args.table.now c.args.cost in
-    let so = found-so (goal.at.returns-in_err-planning-clause-told c).After-told_place-place in
-    let out = table-out words zeros t (guarded_entry rows words c.args.asking.cores) c.and-later.ensures (guard_out rows words c.args.asking.cores t so) {r = c.in_err-planning.field-0.0} c.in_err-planning.ensures.words_after in
+    let found = found-so (goal.at.returns-in_err-planning-clause-told c).After-told_place-place in
+    let later = later-so (goal.at.returns-in_err-planning-clause-told c).After-from-later in
+    let planned = c.in_err-planning.ensures in
+    let out = table-out words zeros t (guarded_entry rows words c.args.asking.cores) c.from-later.result planned.words_after
+    (λ n. guard_out rows words c.args.asking.cores t found _ (later-refused c.told_place-place.result later n)) planned.refusing in
     let told = goes-out _ _ c.from_residual.ensures.1 in
     (λ i. record { change = told i; words = words }) ∙ sym out.0
-
--- a plan has words
-some : {t : TaskTable} {p : Planning} → Totalled t p → 1 ≤ p.words
-some s = omega (arith, s.words)
 
 -- where the table has a plan, its place was told, the words beside are written, and the guard is asked
 written-so : (c : In_ok-planning) →
     (let words = c.args.words.now in let t = costed c.args.table.now c.args.cost in let enter = guarded_entry c.args.asking.board.now.rows words c.args.asking.cores in
-    (c.and-later.result ≡ Ok tt) × (c.in_ok-planning.planning.words ≡ word_count (segment_count t) t.count) × (c.plan_table.new.words ≡ written t zeros) × (on_table (not_admitted words) enter t ≡ enter t))
+    (c.from-later.result.refusal ≡ 0) × (accepted c.in_ok-planning.planning.words ≡ accepted (word_count (segment_count t) t.count)) × (c.plan_table.new.words ≡ written t zeros) × (on_table (not_admitted words) enter t ≡ enter t))
 written-so c =
     let words = c.args.words.now in
-    table-in words zeros (costed c.args.table.now c.args.cost) (guarded_entry c.args.asking.board.now.rows words c.args.asking.cores) (some c.in_ok-planning.ensures.totalled) c.in_ok-planning.ensures.totalled.table c.in_ok-planning.ensures.words_after
+    let planned = c.in_ok-planning.ensures in
+    table-in words zeros (costed c.args.table.now c.args.cost) (guarded_entry c.args.asking.board.now.rows words c.args.asking.cores) c.from-later.result planned.words_after refl planned.totalled.table
 
 placed-so : (c : In_ok-planning) → (a : ℕ) × (c.told_place-place.result ≡ Ok a)
-placed-so c = later-told c.told_place-place.result (sym c.and-later.ensures ∙ (written-so c).0)
+placed-so c =
+    let found = found-so (goal.at-In_ok-planning c).After-told_place-place in
+    let later = later-so (goal.at-In_ok-planning c).After-from-later in
+    later-told c.args.asking.board.now.rows (row_of (costed c.args.table.now c.args.cost)) c.told_place-place.result found later (written-so c).0
 
 -- the plan stands in the words beside
 plan-in : (c : In_ok-planning) → PlanIn (costed c.args.table.now c.args.cost) c.args.table.now.id c.args.table.now.count c.in_ok-planning.planning c.plan_table.new.words

@@ -15,12 +15,12 @@ use Rattle.menders.proofs.take_table.Goals.{In_ok-id, In_ok-period}
 
 pub returns-in_err-edition : goal.returns-in_err-edition
 unfolding draft_of
-returns-in_err-edition c = ap drawn_from (goes-out _ _ c.from_residual.ensures.1) ∙ sym (then-refused _ _ _ _ (sym c.in_err-edition.ensures.step))
+returns-in_err-edition c = ap (drawn_from _) (goes-out _ _ c.from_residual.ensures.1) ∙ sym (then-refused _ _ _ _ (sym c.in_err-edition.ensures.step))
 
 pub returns-in_err-id : goal.returns-in_err-id
 unfolding draft_of
 returns-in_err-id c =
-    ap drawn_from (goes-out _ _ c.from_residual-in_err-id.ensures.1)
+    ap (drawn_from _) (goes-out _ _ c.from_residual-in_err-id.ensures.1)
     ∙ sym (then-read _ _ _ _ (sym c.in_ok-edition.ensures.step) ∙ then-refused _ _ _ _ (along _ _ _ _ c.in_ok-edition.ensures.bytes c.in_err-id.ensures.step))
 
 -- the bytes stay
@@ -33,14 +33,14 @@ after-period c = c.in_ok-period.ensures.bytes ∙ after-id (goal.at-In_ok-period
 pub returns-in_err-period : goal.returns-in_err-period
 unfolding draft_of
 returns-in_err-period c =
-    ap drawn_from (goes-out _ _ c.from_residual-in_err-period.ensures.1)
+    ap (drawn_from _) (goes-out _ _ c.from_residual-in_err-period.ensures.1)
     ∙ sym (then-read _ _ _ _ (sym c.in_ok-edition.ensures.step) ∙ then-read _ _ _ _ (along _ _ _ _ c.in_ok-edition.ensures.bytes c.in_ok-id.ensures.step)
     ∙ then-refused _ _ _ _ (along _ _ _ _ (after-id (goal.at.returns-in_err-period c).In_ok-id) c.in_err-period.ensures.step))
 
 pub returns-in_err-count : goal.returns-in_err-count
 unfolding draft_of
 returns-in_err-count c =
-    ap drawn_from (goes-out _ _ c.from_residual-in_err-count.ensures.1)
+    ap (drawn_from _) (goes-out _ _ c.from_residual-in_err-count.ensures.1)
     ∙ sym (then-read _ _ _ _ (sym c.in_ok-edition.ensures.step) ∙ then-read _ _ _ _ (along _ _ _ _ c.in_ok-edition.ensures.bytes c.in_ok-id.ensures.step)
     ∙ then-read _ _ _ _ (along _ _ _ _ (after-id (goal.at.returns-in_err-count c).In_ok-id) c.in_ok-period.ensures.step)
     ∙ then-refused _ _ _ _ (along _ _ _ _ (after-period (goal.at.returns-in_err-count c).In_ok-period) c.in_err-count.ensures.step))
@@ -57,7 +57,7 @@ returns c =
     let n = c.in_ok-count.count in
     c.take_nodes.ensures
     ∙ ap₂ (λ (t : TaskTable) (s : List ℕ). nodes_taken n 0 (record { edition = x; id = d; period = p; count = n; execution = t.execution; parents = t.parents }) 0 0 s c.take_number-4.new.self.spot)
-    c.empty.ensures (c.in_ok-count.ensures.bytes ∙ after-period (goal.at.returns c).In_ok-period)
+    c.requires (c.in_ok-count.ensures.bytes ∙ after-period (goal.at.returns c).In_ok-period)
     ∙ sym (then-read _ _ _ _ (sym c.in_ok-edition.ensures.step) ∙ then-read _ _ _ _ (along _ _ _ _ c.in_ok-edition.ensures.bytes c.in_ok-id.ensures.step)
     ∙ then-read _ _ _ _ (along _ _ _ _ (after-id (goal.at.returns c).In_ok-id) c.in_ok-period.ensures.step)
     ∙ then-read _ _ _ _ (along _ _ _ _ (after-period (goal.at.returns c).In_ok-period) c.in_ok-count.ensures.step))

@@ -3,7 +3,8 @@ use Rattle.std.specs.Prelude.{ℕ, Result, Ok, Err}
 use Rattle.refusals.specs.declared.Refusal.{Refusal}
 use Rattle.listings.specs.declared.Listing.{Listing}
 use Rattle.menders.specs.declared.Spot.{Spot}
-use Rattle.menders.specs.declared.Found.{Found}
+use Rattle.menders.specs.declared.Counts.{Counts}
+use Rattle.tables.specs.declared.TaskTable.{TaskTable}
 use Rattle.menders.specs.declared.Draft.{Draft}
 use Rattle.menders.specs.Taken.{Step, read}
 use Rattle.menders.specs.Listed.{Listed}
@@ -19,7 +20,7 @@ abbrev pub list_to : Result Listing Refusal → Spot → Result Listed Refusal
 list_to (Ok l) spot = Ok (record { set = l.set; reordered = l.reordered; dropped = l.dropped; spot = spot })
 list_to (Err r) spot = Err r
 
--- as a draft: the table with its counts, or the refusal
-abbrev pub drawn_from : Result Found Refusal → Draft
-drawn_from (Ok found) = drawn found.table found.counts
-drawn_from (Err r) = undrawn r
+-- as a draft: the table that was filled with its counts, or the refusal
+abbrev pub drawn_from : TaskTable → Result Counts Refusal → Draft
+drawn_from t (Ok counts) = drawn t counts
+drawn_from t (Err r) = undrawn r

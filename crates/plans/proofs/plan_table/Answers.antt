@@ -6,8 +6,6 @@ use mathlib.Core.List.{List, ◌++◌}
 use Prim.Native.Nat.{ℕ, ◌+◌, ◌*◌, ◌≤◌}
 use native.Mathlib.Omega.{arith}
 use lib.ListN.{drop}
-use Rattle.std.specs.Prelude.{Result, Ok, Err, ⊤}
-use Rattle.refusals.specs.declared.Refusal.{Refusal}
 use Rattle.refusals.proofs.Out.{goes-out}
 use Rattle.tables.specs.Cost.{costed}
 use Rattle.tables.proofs.Cost.{at-cost, cost-none}
@@ -17,16 +15,16 @@ use Rattle.segments.specs.Inner.Listed.{threads_of, enders_of}
 use Rattle.diagrams.specs.Inner.Traced.{Traced}
 use Rattle.plans.specs.Diagram.{longest, path, segment_count}
 use Rattle.plans.specs.Words.{front_words}
-use Rattle.plans.specs.Calls.{on_table, unplanned}
+use Rattle.plans.specs.Calls.{unplanned}
 use Rattle.plans.specs.Inner.Planned.{Planned}
 use Rattle.plans.specs.Inner.Drawn.{SegmentsOf, NodesOf}
 use Rattle.plans.specs.Inner.Table.{unless_later}
 use Rattle.plans.proofs.Table.{path-latest}
 use Rattle.plans.proofs.Drawn.{path-so}
 use Rattle.plans.proofs.Front.{front-back, past-front}
-use Rattle.plans.proofs.Tests.{on_fits, tested-so, rules-refuse, rules-pass}
+use Rattle.plans.proofs.Tests.{on_fits, rules, tested-so, rules-refuse, rules-pass, later-accepts}
 use Rattle.plans.proofs.plan_table.Goals as goal
-use Rattle.plans.proofs.plan_table.Goals.{After-add_cost, After-sweep-swept, After-tested, After-weigh-weighed, After-write_segments, In_ok-tested}
+use Rattle.plans.proofs.plan_table.Goals.{After-sweep-swept, After-tested, After-weigh-weighed, After-write_segments, In_ok-tested}
 
 pub add_cost-requires : goal.add_cost-requires
 add_cost-requires c =
@@ -41,7 +39,7 @@ traced : (c : After-sweep-swept) → (let t = costed c.args.table c.args.cost in
 traced c = rw (← c.add_cost.ensures) c.sweep-swept.ensures
 
 -- the tests are the table's own
-answered : (c : After-tested) → (let t = costed c.args.table c.args.cost in c.tested.result ≡ on_table Err (λ _. c.args.later) t)
+answered : (c : After-tested) → (let t = costed c.args.table c.args.cost in c.tested.result ≡ rules t c.args.later)
 answered c =
     let s = traced (goal.at.After-tested c).After-sweep-swept in
     let t = costed c.args.table c.args.cost in
@@ -52,10 +50,10 @@ returns-in_err-tested c =
     let a = c.args in
     let t = costed a.table a.cost in
     let out = rules-refuse t a.later a.words.now (sym (answered (goal.at.returns-in_err-tested c).After-tested) ∙ c.in_err-tested.was) in
-    rw (goes-out _ _ c.from_residual.ensures.1) (record { words_after = sym out; totalled = tt })
+    rw (goes-out _ _ c.from_residual.ensures.1) (record { words_after = sym out.1; totalled = tt; refusing = out.0 })
 
 -- ---- no refusal: the table has a plan, and the run is cut up as it
-passed : (c : In_ok-tested) → (let t = costed c.args.table c.args.cost in (loops t.parents t.count ≡ false) × (path t ≤ t.period) × (c.args.later ≡ Ok tt))
+passed : (c : In_ok-tested) → (let t = costed c.args.table c.args.cost in (loops t.parents t.count ≡ false) × (path t ≤ t.period) × (c.args.later.refusal ≡ 0))
 passed c = rules-pass (costed c.args.table c.args.cost) c.args.later (sym (answered (goal.at.In_ok-tested c).After-tested) ∙ c.in_ok-tested.was)
 
 planned : (c : In_ok-tested) → Planned (costed c.args.table c.args.cost)
@@ -107,6 +105,7 @@ returns c =
     let wrote = c.write_nodes-count.ensures _ (nodes-of (goal.at.returns c).After-write_segments) in
     let fits = on_fits (unplanned words) (unless_later c.args.later words) t (passed p).0 (passed p).1 in
     record {
-      words_after = rw (wrote.0, wrote.1 ∙ past-front t words (front (goal.at.returns c).After-write_segments)) (sym (fits ∙ ap (λ (l : Result ⊤ Refusal). unless_later l words t) (passed p).2));
+      words_after = rw (wrote.0, wrote.1 ∙ past-front t words (front (goal.at.returns c).After-write_segments)) (sym (fits ∙ later-accepts c.args.later words t (passed p).2));
       totalled = record { table = planned p; words = wrote.0; work = (segments-of w).work; path = path-so (segments-of w); longest = longest-of w };
+      refusing = tt;
     }

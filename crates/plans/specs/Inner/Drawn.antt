@@ -1,5 +1,5 @@
 -- What the functions hand to each other: a table's run, in lists and numbers.
-use Rattle.std.specs.Prelude.{◌≡◌, Bool, List, ℕ, ◌+◌, ◌*◌, ◌≤◌, Result, Ok, Err, ⊤, length, take}
+use Rattle.std.specs.Prelude.{◌≡◌, eqb, Bool, List, ℕ, ◌+◌, ◌*◌, ◌≤◌, Result, Ok, Err, ⊤, length, take}
 use Rattle.plain.specs.Pick.{pick}
 use Rattle.refusals.specs.Numbers.{long_path}
 use Rattle.refusals.specs.declared.Refusal.{Refusal}
@@ -21,14 +21,18 @@ use Rattle.plans.specs.Inner.Planned.{Planned}
 abbrev pub outcome_of : TaskTable → Result ⊤ Refusal
 outcome_of t = on_table Err (λ _. Ok tt) t
 
--- the outcome by two tests: 10 with its loop, 11, else the later rules' own
-abbrev pub tested : (round : Bool) → Refusal → (long : Bool) → Result ⊤ Refusal → Result ⊤ Refusal
-tested round told long later = pick round (Err told) (pick long (Err (refusal long_path 0)) later)
+-- what an answer lets through: nothing where it refuses, and then it goes out as it is
+abbrev pub passed : Answer → Result ⊤ Answer
+passed a = pick (eqb a.refusal 0) (Ok tt) (Err a)
 
--- "Planning returns that number of words"; a refusal is told whole
-abbrev pub told : Result Planning Refusal → Answer
+-- the outcome by two tests: 10 with its loop, 11, else the later rules' own
+abbrev pub tested : (round : Bool) → Refusal → (long : Bool) → Answer → Result ⊤ Answer
+tested round told long later = pick round (Err (refused told)) (pick long (Err (refused (refusal long_path 0))) (passed later))
+
+-- "Planning returns that number of words"; an answer that refuses is told whole
+abbrev pub told : Result Planning Answer → Answer
 told (Ok p) = accepted p.words
-told (Err r) = refused r
+told (Err a) = a
 
 -- of a table that has a plan: its node count, its period and work, and its run cut up into s segments
 pub record SegmentsOf (t : TaskTable) (n s : ℕ) (times : Times) (trace : Trace) : Type 0 where

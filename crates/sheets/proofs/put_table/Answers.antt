@@ -1,10 +1,10 @@
 -- `sheets::put_table` meets its contract: a refused table gives its line, and an accepted one the sheet of its written plan.
-use mathlib.Core.Path.{◌≡◌, sym}
+use mathlib.Core.Path.{◌≡◌, refl, sym, ap, ◌∙◌}
 use mathlib.Core.List.{List}
 use Prim.Native.Nat.{ℕ}
 use lib.ListN.{replicate}
 use native.Mathlib.Omega.{arith}
-use Rattle.std.specs.Prelude.{Ok}
+use Rattle.refusals.specs.After.{After}
 use Rattle.tables.specs.Cost.{costed}
 use Rattle.plans.specs.Words.{words_max, written}
 use Rattle.plans.specs.Inner.Drawn.{Totalled}
@@ -27,7 +27,7 @@ totals : (c : In-Ok) → Totalled (costed c.args.table.now sheet_cost) c.in-Ok.p
 totals c = c.in-Ok.ensures.totalled
 
 words : (c : In-Ok) → c.plan_table.new.words ≡ written (costed c.args.table.now sheet_cost) zeros
-words c = (told-in (Ok tt) zeros (costed c.args.table.now sheet_cost) (totals c) c.in-Ok.ensures.words_after).1
+words c = (told-in c.accepted.result zeros (costed c.args.table.now sheet_cost) refl (totals c).table c.in-Ok.ensures.words_after).2
 
 pub put_sheet-requires-clause-printable : goal.put_sheet-requires-clause-printable
 put_sheet-requires-clause-printable c =
@@ -43,4 +43,6 @@ returns-in-Ok c =
 
 pub returns-in-Err : goal.returns-in-Err
 returns-in-Err c =
-    puts-same (table-told refused_line table_sheet zeros (costed c.args.table.now sheet_cost) c.in-Err.ensures.words_after) c.put_refusal.ensures
+    let planned = rw c.accepted.ensures at c.in-Err.ensures.words_after in
+    let told = table-told refused_line table_sheet zeros (costed c.args.table.now sheet_cost) (ap (λ (x : After (List ℕ)). x.answer) planned) c.in-Err.ensures.refusing in
+    puts-same (ap refused_line c.told_by.ensures ∙ told) c.put_refusal.ensures

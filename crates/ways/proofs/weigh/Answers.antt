@@ -1,30 +1,30 @@
--- `ways::weigh` meets its contract: sum and greatest of the first n as a list are those by index, and 64 weights fit a word.
-use mathlib.Core.Path.{◌≡◌, ◌∙◌}
+-- `ways::weigh` meets its contract: after v turns work and longest are those of the first v weights, and 64 weights fit a word.
+use mathlib.Core.Path.{◌≡◌, refl}
 use native.Mathlib.Omega.{arith}
-use Prim.Native.Nat.{◌^◌, ◌<◌, ◌≤◌}
-use lib.ListN.{length, take}
-use Rattle.std.proofs.Common.{sum, Contains, All}
-use Rattle.std.proofs.lemmas.List.{length-take-le}
-use Rattle.std.proofs.lemmas.Grind.{common_steps}
+use Rattle.plain.specs.At.{at}
+use Rattle.plain.specs.Sums.{sum_to, max_to}
+use Rattle.plain.proofs.Sums.{sum_to-more, sum-under, max_to-more}
 use Rattle.ways.specs.Inner.Weights.{weight_max}
-use Rattle.ways.proofs.Totals.{work-le, front-work, front-longest}
+use Rattle.ways.specs.Totals.{work_of, longest_of}
+use Rattle.ways.proofs.Totals.{work-le}
 use Rattle.ways.proofs.weigh.Goals as goal
 
-pub sum-requires-clause-fits : goal.sum-requires-clause-fits
-sum-requires-clause-fits c =
-    let a = c.args in
-    let most = work-le a.weights.now a.n weight_max c.requires.1 c.requires.0 in
-    let within : sum (take a.n a.weights.now) < 2 ^ 64 = omega (arith, front-work a.weights.now a.n (omega arith), most) in
-    grind (arith, common_steps)
+pub loop-v-init : goal.loop-v-init
+unfolding sum_to max_to
+loop-v-init c = (refl, refl)
+
+pub overflow_add-weighed : goal.overflow_add-weighed
+unfolding work_of
+overflow_add-weighed c =
+    let f = at c.args.weights.now in
+    let w = work-le c.args.weights.now c.args.n weight_max c.requires.1 c.requires.0 in
+    omega (arith, sum-under f c.loop-v.v c.args.n (omega arith))
+
+pub loop-v-preserved : goal.loop-v-preserved
+loop-v-preserved c =
+    let f = at c.args.weights.now in
+    (omega (arith, sum_to-more c.loop-v.v f), omega (arith, max_to-more c.loop-v.v f))
 
 pub returns : goal.returns
-returns c =
-    let X = c.args.weights.now in
-    let n = c.args.n in
-    let h : n ≤ length X = omega arith in
-    let work : c.sum.result ≡ sum (take n X) = grind (arith, common_steps) in
-    let front = length-take-le n X h in
-    let most : All (λ x. x ≤ c.unwrap_or.result) (take n X) = grind (arith, common_steps) in
-    let one : 0 < n → Contains (take n X) c.unwrap_or.result = grind (arith, common_steps) in
-    let none : n ≡ 0 → c.unwrap_or.result ≡ 0 = grind (arith, common_steps) in
-    (work ∙ front-work X n h, front-longest X n h c.unwrap_or.result most one none)
+unfolding work_of longest_of
+returns c = let l = c.loop-v in let e : l.v ≡ c.args.n = omega arith in (rw e at l.invariant.0, rw e at l.invariant.1)

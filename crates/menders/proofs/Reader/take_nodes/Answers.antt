@@ -17,12 +17,12 @@ use Rattle.menders.proofs.Reader.take_nodes.Goals.{In_ok-execution, In_ok-list}
 
 pub returns-in_err-execution : goal.returns-in_err-execution
 returns-in_err-execution c = let l = c.loop-v in
-    ap drawn_from (goes-out _ _ c.from_residual.ensures.1)
+    ap (drawn_from _) (goes-out _ _ c.from_residual.ensures.1)
     ∙ sym (l.invariant.0 ∙ nodes-more _ _ _ _ _ _ _ _ l.invariant.1 c.loop-v-test.true l.invariant.2 ∙ then-refused _ _ _ _ (along _ _ _ _ l.invariant.3 c.in_err-execution.ensures.step))
 
 pub returns-in_err-list : goal.returns-in_err-list
 returns-in_err-list c = let l = c.loop-v in
-    ap drawn_from (goes-out _ _ c.from_residual-in_err-list.ensures.1)
+    ap (drawn_from _) (goes-out _ _ c.from_residual-in_err-list.ensures.1)
     ∙ sym (l.invariant.0 ∙ nodes-more _ _ _ _ _ _ _ _ l.invariant.1 c.loop-v-test.true l.invariant.2
     ∙ then-read _ _ _ _ (along _ _ _ _ l.invariant.3 c.in_ok-execution.ensures.step) ∙ then-none _ _ _ _ (list-along _ _ (c.in_ok-execution.ensures.bytes ∙ l.invariant.3) c.in_err-list.ensures.list))
 

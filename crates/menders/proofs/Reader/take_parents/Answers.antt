@@ -26,7 +26,7 @@ count c = passed _ _ _ _ _ _ c.in_ok-count.ensures.step c.args.self.now.within
 pub returns-in_err-count-clause-list : goal.returns-in_err-count-clause-list
 unfolding parent_list
 returns-in_err-count-clause-list c =
-    ap (λ (o : Result Listing Refusal). list_to o c.take_number.new.self.spot) (goes-out _ _ c.from_residual.ensures.1) ∙ sym (then-refused _ _ _ _ (sym c.in_err-count.ensures.step))
+    ap (λ (o : Result Listing Refusal). list_to o c.args.self.now.spot) (goes-out _ _ c.from_residual.ensures.1) ∙ sym (then-refused _ _ _ _ (sym c.in_err-count.ensures.step))
 
 pub loop-init : goal.loop-init
 unfolding parent_list
@@ -39,12 +39,12 @@ loop-init c = let e : c.in_ok-count.count ≡ c.in_ok-count.count - 0 = omega ar
 )
 
 -- the parent that a turn took
-parent : (c : In_ok-parent) → Passed bad_parent 0 (c.args.n - 1) c.loop.self.bytes.now c.loop.self.spot (record { value = c.in_ok-parent.parent; spot = c.take_number-in-loop.new.self.spot })
-parent c = passed _ _ _ _ _ _ c.in_ok-parent.ensures.step c.loop.self.within
+parent : (c : In_ok-parent) → Passed bad_parent 0 (c.args.n - 1) c.loop.given.bytes.now c.loop.given.spot (record { value = c.in_ok-parent.parent; spot = c.take_number-in-loop.new.self.spot })
+parent c = passed _ _ _ _ _ _ c.in_ok-parent.ensures.step c.loop.given.within
 
 pub returns-in_err-parent-clause-list : goal.returns-in_err-parent-clause-list
 returns-in_err-parent-clause-list c = let l = c.loop in
-    ap (λ (o : Result Listing Refusal). list_to o c.take_number-in-loop.new.self.spot) (goes-out _ _ c.from_residual-in_err-parent.ensures.1)
+    ap (λ (o : Result Listing Refusal). list_to o c.args.self.now.spot) (goes-out _ _ c.from_residual-in_err-parent.ensures.1)
     ∙ sym (l.invariant.3 ∙ listed_more _ _ _ _ l.counter _ (omega arith) ∙ then-refused _ _ _ _ (along _ _ _ _ l.invariant.4 c.in_err-parent.ensures.step))
 
 pub with_parent-list-requires : goal.with_parent-list-requires
@@ -54,7 +54,7 @@ with_parent-list-requires c = let p = parent (goal.at.with_parent-list-requires 
 
 pub loop-preserved : goal.loop-preserved
 loop-preserved c = let l = c.loop in let v = c.in_ok-parent.parent in
-    let padded : l.list.padded ≡ l.self.spot.padded = ap (λ (x : Listing). x.padded) l.invariant.1 in (
+    let padded : l.list.padded ≡ l.given.spot.padded = ap (λ (x : Listing). x.padded) l.invariant.1 in (
       l.invariant.0 ++ v ∷ [],
       c.with_parent-list.ensures l.invariant.0 (l.invariant.1 ∙ ap (λ (k : ℕ). listing_of k l.invariant.0) (sym padded)),
       omega (arith, length-append l.invariant.0 (v ∷ []), l.invariant.2),
@@ -64,4 +64,4 @@ loop-preserved c = let l = c.loop in let v = c.in_ok-parent.parent in
 
 pub returns-clause-list : goal.returns-clause-list
 returns-clause-list c = let l = c.loop in
-    ap (λ (x : Listing). list_to (Ok x) l.self.spot) l.invariant.1 ∙ sym (l.invariant.3 ∙ listed-none _ _ _ _ _ (omega arith))
+    ap (λ (x : Listing). list_to (Ok x) l.given.spot) l.invariant.1 ∙ sym (l.invariant.3 ∙ listed-none _ _ _ _ _ (omega arith))

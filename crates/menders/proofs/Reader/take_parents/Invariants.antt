@@ -9,7 +9,7 @@ use Rattle.menders.proofs.Reader.take_parents.Given as goal
 abbrev pub invariant-loop : goal.invariant-loop
 invariant-loop l =
     (given : List ℕ)
-    × (l.list ≡ listing_of l.self.spot.padded given)
+    × (l.list ≡ listing_of l.given.spot.padded given)
     × (length given ≡ l.counter)
-    × (parent_list l.n l.fn.self.bytes.now l.fn.self.spot ≡ listed (l.count - l.counter) l.n l.fn.self.bytes.now l.self.spot given)
-    × (l.self.bytes.now ≡ l.fn.self.bytes.now)
+    × (parent_list l.n l.fn.self.bytes.now l.fn.self.spot ≡ listed (l.count - l.counter) l.n l.fn.self.bytes.now l.given.spot given)
+    × (l.given.bytes.now ≡ l.fn.self.bytes.now)

@@ -9,7 +9,7 @@ use Rattle.std.proofs.lemmas.Slice.Zip.{zip_turn, zip_end}
 use Rattle.plain.specs.At.{at}
 use Rattle.refusals.proofs.Out.{goes-out}
 use Rattle.writers.specs.Inner.Trial.{node_max, passed, node_tried, nodes_tried}
-use Rattle.writers.proofs.Cases.{node-near, nodes-none, nodes-more, nodes-stay}
+use Rattle.writers.proofs.Cases.{node-next, nodes-none, nodes-more, nodes-stay}
 use Rattle.writers.proofs.Task.try_nodes.Goals as goal
 use Rattle.writers.proofs.Task.try_nodes.Goals.{After-try_node, In-Some}
 
@@ -39,7 +39,7 @@ returns-in_err-next c = let a = c.args.self in let w = (goal.at.returns-in_err-n
 pub loop-execution-preserved : goal.loop-execution-preserved
 loop-execution-preserved c =
     let i : length (c.loop-execution.yielded ++ (c.in-Some.execution, c.in-Some.set) ∷ []) ≡ length c.loop-execution.yielded + 1 = length-append _ _ in
-    let near : c.in_ok-next.next ≤ c.loop-execution.next + node_max = node-near _ _ _ _ _ _ c.requires.0 c.in_ok-next.ensures in
+    let near : c.in_ok-next.next ≤ c.loop-execution.next + node_max = node-next _ _ _ _ _ _ c.requires.0 c.in_ok-next.ensures in
     rw i (sym c.in_ok-next.was ∙ more (goal.at.loop-execution-preserved c).After-try_node, omega (arith, c.loop-execution.invariant.1))
 
 pub returns : goal.returns
