@@ -89,7 +89,8 @@ fn read_long(rest: &[u8]) -> Result<Number, Fault>
     }
 }
 
-// A record's number at the front of rest. Nearly all are one byte, so that is tried first, in a function that is small enough to be inlined.
+// A record's number at the front of rest. Nearly all are one byte, so that is tried first, in a function that is small enough to be inlined. Where nothing is
+// left is told here too: behind a call it would keep the loops of callers out of their registers.
 #[tactic(auto, using(crate::proofs::Cases::none, crate::proofs::Cases::last))]
 #[inline(always)]
 pub fn read_number(rest: &[u8]) -> Result<Number, Fault>
