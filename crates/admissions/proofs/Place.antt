@@ -68,5 +68,9 @@ pub later-refused : (told : Result ℕ Refusal) {later : Answer} → later ≡ l
 later-refused (Ok a) so n = absurd (n (ap (λ (x : Answer). x.refusal) so))
 later-refused (Err r) so n = rw so
 
+-- where planning is told nothing that refuses, the place is not refused, if no refusal of it is numbered 0; the board's are 12 and 13
+pub later-none : {told : Result ℕ Refusal} {later : Answer} {r : Refusal} → (r.number ≡ 0 → ⊥) → later ≡ later_of told → later.refusal ≡ 0 → told ≡ Err r → ⊥
+later-none n so z e = n (ap (λ (x : Result ℕ Refusal). (later_of x).refusal) (sym e) ∙ ap (λ (x : Answer). x.refusal) (sym so) ∙ z)
+
 pub later-accepted : (rows : List Row) (row : Row) {told : Result ℕ Refusal} {later : Answer} {r : Refusal} → told ≡ found rows row → later ≡ later_of told → later.refusal ≡ 0 → told ≡ Err r → ⊥
-later-accepted rows row found-so so z e = place-number rows row (sym found-so ∙ e) (ap (λ (x : Result ℕ Refusal). (later_of x).refusal) (sym e) ∙ ap (λ (x : Answer). x.refusal) (sym so) ∙ z)
+later-accepted rows row found-so so z e = later-none (place-number rows row (sym found-so ∙ e)) so z e

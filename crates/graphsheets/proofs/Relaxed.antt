@@ -6,8 +6,11 @@ use mathlib.Core.List.{List}
 use Prim.Native.Nat.{ℕ, ◌*◌, ◌≤◌}
 use native.Mathlib.Nat.{le_refl, le_trans}
 use native.Mathlib.Omega.{arith}
+use Rattle.refusals.specs.declared.Refusal.{Refusal}
 use Rattle.refusals.specs.declared.Answer.{Answer}
 use Rattle.refusals.specs.Refusal.{refusal_of}
+use Rattle.refusals.specs.Answer.{accepted, refused}
+use Rattle.refusals.specs.After.{After}
 use Rattle.tables.specs.declared.TaskTable.{TaskTable}
 use Rattle.tables.specs.Limits.{period_max, count_max, execution_max}
 use Rattle.tables.specs.Range.{InRange}
@@ -19,8 +22,9 @@ use Rattle.ways.proofs.Totals.{work-le}
 use Rattle.shares.proofs.Fair.{path-le}
 use Rattle.plans.specs.Diagram.{path}
 use Rattle.plans.specs.Calls.{on_table, unplanned, planned}
+use Rattle.plans.specs.Inner.Table.{table_plan}
 use Rattle.plans.proofs.Table.{path-some, segmented}
-use Rattle.plans.proofs.Tests.{on-loop, on_fits}
+use Rattle.plans.proofs.Tests.{on-loop, on_fits, refused-out}
 use Rattle.sheets.specs.Lines.{refused_line}
 use Rattle.sheets.specs.Printed.{table_sheet, sheet_cost}
 use Rattle.graphsheets.specs.Sheet.{relaxed}
@@ -69,3 +73,9 @@ module _ {t : TaskTable} (r : InRange t) where
       by : (b : Bool) → loops t.parents t.count ≡ b → refused_line (refusal_of a) ≡ on_table refused_line table_sheet (costed (relaxed t) sheet_cost)
       by true e = rw (answered, on-loop (unplanned words) (planned words) (costed t sheet_cost) e) (sym (on-loop refused_line table_sheet (costed (relaxed t) sheet_cost) e))
       by false e = absurd (n (rw (answered, on_fits (unplanned words) (planned words) (costed t sheet_cost) e (omega (arith, path-free t, path-high e)))))
+
+  -- the same of `refused told`, as planning leaves it
+  pub refused-relaxed : (words : List ℕ) {told : Refusal} {w : List ℕ} → t.period ≡ period_max → record { answer = refused told; lent = w } ≡ table_plan (accepted 0) words (costed t sheet_cost)
+      → refused_line told ≡ on_table refused_line table_sheet (costed (relaxed t) sheet_cost)
+  refused-relaxed words {told} largest e =
+      refused-loop words {a = refused told} largest (ap (λ (x : After (List ℕ)). x.answer) e) (refused-out (accepted 0) words (costed t sheet_cost) {r = told} e).0

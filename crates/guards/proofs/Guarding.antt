@@ -24,7 +24,7 @@ use Rattle.boards.specs.Change.{before_asking}
 use Rattle.boards.proofs.Keeping.{others-kept, row_written, place-free, placed-sound}
 use Rattle.admissions.specs.Admission.{Admission, row_of, not_admitted}
 use Rattle.guards.specs.Guarded.{guarded, guarded_entry, admission}
-use Rattle.admissions.proofs.Place.{found, place-accepted, later_of, later-accepted}
+use Rattle.admissions.proofs.Place.{found, place-number, place-accepted, later_of, later-none}
 use Rattle.admissions.proofs.Row.{row-standing}
 use Rattle.admissions.proofs.Tests.{stays_out, goes_in}
 
@@ -48,10 +48,14 @@ module _ {rows : List Row} (s : Sound rows) (h : free_at rows < rows_max) (row :
 abbrev pub told : Bool → Result ⊤ Refusal
 told says = pick says (Ok tt) (Err (refusal verdict_no 0))
 
--- a place was told where planning goes on
+-- a place was told where planning goes on, if no refusal of it is numbered 0; the board's are 12 and 13
+pub later-placed : (told : Result ℕ Refusal) {later : Answer} → ((r : Refusal) → told ≡ Err r → r.number ≡ 0 → ⊥) → later ≡ later_of told → later.refusal ≡ 0 → (a : ℕ) × (told ≡ Ok a)
+later-placed (Ok a) n so z = (a, refl)
+later-placed (Err r) n so z = absurd (later-none (n r refl) so z refl)
+
+-- so of what the board tells
 pub later-told : (rows : List Row) (row : Row) (told : Result ℕ Refusal) {later : Answer} → told ≡ found rows row → later ≡ later_of told → later.refusal ≡ 0 → (a : ℕ) × (told ≡ Ok a)
-later-told rows row (Ok a) found-so so z = (a, refl)
-later-told rows row (Err r) found-so so z = absurd (later-accepted rows row found-so so z refl)
+later-told rows row told found-so = later-placed told λ r e. place-number rows row (sym found-so ∙ e)
 
 -- a task that has a plan, by what the two places tell
 module _ (rows : List Row) (words : List ℕ) (cores : ℕ) (t : TaskTable) {place : Result ℕ Refusal} (found-so : place ≡ found rows (row_of t)) where

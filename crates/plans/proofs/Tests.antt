@@ -120,6 +120,33 @@ table-told refuse go words t {a} answered n = by (loops t.parents t.count) (ltb 
     by false true e = rw e
     by false false e = absurd (n (ap (λ (x : Answer). x.refusal) e))
 
+-- where nothing is refused, however a refusal is told, there is no loop, the path fits, and the later rules refuse nothing
+pub pass-told : {E : Type 0} (tell : Refusal → E) (t : TaskTable) (later : Result ⊤ E) → on_table (λ r. Err (tell r)) (λ _. later) t ≡ Ok tt
+    → (loops t.parents t.count ≡ false) × (path t ≤ t.period) × (later ≡ Ok tt)
+unfolding on_table
+pass-told {E} tell t later = by (loops t.parents t.count) (ltb t.period (path t)) refl refl
+  where
+    by : (b c : Bool) → loops t.parents t.count ≡ b → ltb t.period (path t) ≡ c → ◌≡◌ {A = Result ⊤ E} (pick b (Err (tell (loop_in t))) (pick c (Err (tell (refusal long_path 0))) later)) (Ok tt)
+        → (loops t.parents t.count ≡ false) × (path t ≤ t.period) × (later ≡ Ok tt)
+    by true c l h e = absurd cc
+    by false true l h e = absurd cc
+    by false false l h e = (l, ltb-false t.period (path t) h, e)
+
+-- an answer that lets pass refuses nothing; what goes out is the answer, and it refuses
+pub passed-none : (later : Answer) → passed later ≡ Ok tt → later.refusal ≡ 0
+passed-none later = by (eqb later.refusal 0) refl
+  where
+    by : (z : Bool) → eqb later.refusal 0 ≡ z → ◌≡◌ {A = Result ⊤ Answer} (pick z (Ok tt) (Err later)) (Ok tt) → later.refusal ≡ 0
+    by true k e = eqb-true later.refusal 0 k
+    by false k e = absurd cc
+
+pub passed-out : (later : Answer) {a : Answer} → passed later ≡ Err a → (later.refusal ≡ 0 → ⊥) × (later ≡ a)
+passed-out later {a} = by (eqb later.refusal 0) refl
+  where
+    by : (z : Bool) → eqb later.refusal 0 ≡ z → ◌≡◌ {A = Result ⊤ Answer} (pick z (Ok tt) (Err later)) (Err a) → (later.refusal ≡ 0 → ⊥) × (later ≡ a)
+    by true k e = absurd cc
+    by false k e = (eqb-false later.refusal 0 k, cc)
+
 -- ---- the tests after the run
 module _ (t : TaskTable) (later : Answer) where
   -- what they come to
@@ -158,15 +185,7 @@ module _ (t : TaskTable) (later : Answer) where
 
   -- no refusal: there is no loop, the path fits, and the later rules refuse nothing
   pub rules-pass : rules ≡ Ok tt → (loops t.parents t.count ≡ false) × (path t ≤ t.period) × (later.refusal ≡ 0)
-  unfolding on_table
-  rules-pass = by (loops t.parents t.count) (ltb t.period (path t)) (eqb later.refusal 0) refl refl refl
-    where
-      by : (b c z : Bool) → loops t.parents t.count ≡ b → ltb t.period (path t) ≡ c → eqb later.refusal 0 ≡ z → picked b c z ≡ Ok tt
-          → (loops t.parents t.count ≡ false) × (path t ≤ t.period) × (later.refusal ≡ 0)
-      by true c z l h k e = absurd cc
-      by false true z l h k e = absurd cc
-      by false false true l h k e = (l, ltb-false t.period (path t) h, eqb-true later.refusal 0 k)
-      by false false false l h k e = absurd cc
+  rules-pass e = let p = pass-told refused t (passed later) e in (p.0, p.1, passed-none later p.2)
 
 -- a plan that a later rule refuses, and one that none does
 module _ (later : Answer) (words : List ℕ) (t : TaskTable) where
@@ -190,6 +209,17 @@ module _ (later : Answer) (words : List ℕ) (t : TaskTable) where
       by false false false e = goes e
       by false false true e = absurd (n (ap (λ (x : After (List ℕ)). x.answer.refusal) e))
 
+  -- `refused r` needs no such premise: a plan is told with a value above 0, so it is none, and r is not numbered 0
+  pub refused-out : {r : Refusal} {w : List ℕ} → record { answer = refused r; lent = w } ≡ table_plan later words t → (r.number ≡ 0 → ⊥) × (rules t later ≡ Err (refused r)) × (w ≡ words)
+  unfolding on_table
+  refused-out {r} {w} e = let n = by (loops t.parents t.count) (ltb t.period (path t)) (eqb later.refusal 0) refl e in let p = told-out n e in (n, p.0, p.1)
+    where
+      by : (b c z : Bool) → eqb later.refusal 0 ≡ z → record { answer = refused r; lent = w } ≡ leaves t later b c z words → r.number ≡ 0 → ⊥
+      by true c z l e none = let told = ap (λ (x : After (List ℕ)). x.answer.refusal) e in omega arith
+      by false true z l e none = let told = ap (λ (x : After (List ℕ)). x.answer.refusal) e in omega arith
+      by false false true l e none = let value = ap (λ (x : After (List ℕ)). x.answer.value) e in omega arith
+      by false false false l e none = eqb-false later.refusal 0 l (sym (ap (λ (x : After (List ℕ)). x.answer.refusal) e) ∙ none)
+
   -- and of a plan, that the later rules refuse nothing, and that it is written
   pub told-in : {a : Answer} {w : List ℕ} → a.refusal ≡ 0 → Planned t → record { answer = a; lent = w } ≡ table_plan later words t
       → (later.refusal ≡ 0) × (a ≡ accepted (word_count (segment_count t) t.count)) × (w ≡ written t words)
@@ -201,3 +231,9 @@ module _ (later : Answer) (words : List ℕ) (t : TaskTable) where
       by : Dec (later.refusal ≡ 0) → (later.refusal ≡ 0) × (a ≡ accepted (word_count (segment_count t) t.count)) × (w ≡ written t words)
       by (yes l) = let so = left (later-accepts l) in (l, so.0, so.1)
       by (no m) = absurd (m (sym (ap (λ (x : Answer). x.refusal) (left (later-refuses m)).0) ∙ z))
+
+-- so where no later rule is tried, everything that goes by a table's refusal goes by that r
+pub refused-told : {A : Type 0} (refuse : Refusal → A) (go : TaskTable → A) (words : List ℕ) (t : TaskTable) {r : Refusal} {w : List ℕ} →
+    record { answer = refused r; lent = w } ≡ table_plan (accepted 0) words t → refuse r ≡ on_table refuse go t
+refused-told refuse go words t {r} e =
+    table-told refuse go words t {a = refused r} (ap (λ (x : After (List ℕ)). x.answer) e) (refused-out (accepted 0) words t {r = r} e).0
