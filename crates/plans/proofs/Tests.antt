@@ -232,7 +232,7 @@ module _ (later : Answer) (words : List ℕ) (t : TaskTable) where
       by (yes l) = let so = left (later-accepts l) in (l, so.0, so.1)
       by (no m) = absurd (m (sym (ap (λ (x : Answer). x.refusal) (left (later-refuses m)).0) ∙ z))
 
--- so where no later rule is tried, everything that goes by a table's refusal goes by that r
+-- so of `refused r`, where no later rule is tried: everything that goes by a table's refusal goes by r
 pub refused-told : {A : Type 0} (refuse : Refusal → A) (go : TaskTable → A) (words : List ℕ) (t : TaskTable) {r : Refusal} {w : List ℕ} →
     record { answer = refused r; lent = w } ≡ table_plan (accepted 0) words t → refuse r ≡ on_table refuse go t
 refused-told refuse go words t {r} e =
